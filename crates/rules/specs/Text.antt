@@ -1,0 +1,24 @@
+-- Bytes of quoted texts, and finding a spelling in a list. Assumes nothing.
+use Prim.Native.Nat.{ℕ, zero, suc, _+_}
+use Prim.Native.Char.{code}
+use Prim.Native.String.{String, [] as empty, _∷_ as _before_}
+use mathlib.Core.Bool.{Bool, true, false, _&&_, cond}
+use mathlib.Core.List.{List, [], _∷_}
+use lib.Dec.{eqb}
+
+-- a quoted text as bytes
+abbrev pub bytes : String → List ℕ
+bytes empty = []
+bytes (c before t) = code c ∷ bytes t
+
+-- the same bytes
+unfoldable pub same : List ℕ → List ℕ → Bool
+same [] [] = true
+same [] (b ∷ r) = false
+same (a ∷ l) [] = false
+same (a ∷ l) (b ∷ r) = eqb a b && same l r
+
+-- the number of the first spelling in a list that is the same, counted from 0; their count if there is none
+unfoldable pub indexOf : List ℕ → List (List ℕ) → ℕ
+indexOf w [] = 0
+indexOf w (v ∷ vs) = cond (same w v) 0 (suc (indexOf w vs))
