@@ -15,4 +15,4 @@ pub mod Meaning
 pub mod Run
 pub mod Flat
 pub mod Flatten
-pub mod Edges
+pub mod Laws
