@@ -1,9 +1,9 @@
 -- The whole of flattening: from a text and the lengths of the lent buffers to number, place, steps and netlist words. Assumes nothing.
 use Prim.Native.Nat.{ℕ, _-_}
-use mathlib.Core.Bool.{Bool, true, false, _||_, cond}
+use mathlib.Core.Bool.{Bool, true, false, _&&_}
 use mathlib.Core.List.{List, [], _∷_, _++_}
 use lib.ListN.{length, replicate}
-use lib.Dec.{ltb}
+use lib.Dec.{leb}
 use Rattle.rules.specs.Outcome.{Out, ok, refuse, _>>=_, need}
 use Rattle.rules.specs.Syntax.{Program}
 use Rattle.rules.specs.Grammar.{grammar}
@@ -19,8 +19,8 @@ program text = do
 -- "Order: 1, 2. Then words from the front .. Then unfolding": a work table and a netlist of these lengths are lent
 unfoldable pub flattened : List ℕ → ℕ → ℕ → Out Unfolded
 flattened text work net = do
-  _ ← need (cond (ltb work 16384 || ltb net 5124) false true) 1
-  _ ← need (cond (ltb 16384 (length text)) false true) 2
+  _ ← need (leb 16384 work && leb 5124 net) 1
+  _ ← need (leb (length text) 16384) 2
   P ← program text
   unfoldMain P
 

@@ -1,12 +1,13 @@
 -- 01, "Words and order of words": from the words of a text to its program, or 3, 4, 5 at the first word that is wrong.
 -- Assumes nothing.
 use Prim.Native.Nat.{ℕ, zero, suc, _+_}
-use mathlib.Core.Bool.{Bool, true, false, _||_, cond}
+use mathlib.Core.Bool.{Bool, true, false, _||_}
 use mathlib.Core.List.{List, [], _∷_}
 use lib.ListN.{length}
 use lib.Dec.{ltb, eqb}
 use Rattle.rules.specs.declared.Word.{Word}
 use Rattle.rules.specs.declared.Word.the-variants.{Bad, Name as Named, Number, Mark}
+use Rattle.rules.specs.Text.{pick}
 use Rattle.rules.specs.Outcome.{Out, ok, refuse, _>>=_ as _and-then_}
 use Rattle.rules.specs.Words.{wordAt, key}
 use Rattle.rules.specs.Syntax.{Name, Op, plus, minus, times, Exp, number, name, neg, group, both, Sort, wire, vector, num, Arg, whole, part, Stmts, end, call, loop, before, Decl, Block, Spelled}
@@ -25,14 +26,14 @@ unfoldable pub factored : List ℕ → Word → (ℕ → Reader Expr) → (ℕ �
 factored s (Bad p) negative bracket = refuse 3 p
 factored s (Named p q) negative bracket = ok (name (spelling s p q), q)
 factored s (Number p q v) negative bracket = ok (number v, q)
-factored s (Mark b p q) negative bracket = cond (eqb b (key "-")) (negative p) (cond (eqb b (key "(")) (bracket p) (refused 4 p)) q
+factored s (Mark b p q) negative bracket = pick (eqb b (key "-")) (negative p) (pick (eqb b (key "(")) (bracket p) (refused 4 p)) q
 
 -- at a mark that joins, the first; any other word is left to the second
 unfoldable pub joined : (ℕ → Bool) → Word → (ℕ → Reader Expr) → Reader Expr → Reader Expr
 joined joins (Bad p) more done at = done at
 joined joins (Named p q) more done at = done at
 joined joins (Number p q v) more done at = done at
-joined joins (Mark b p q) more done at = cond (joins b) (λ _. more b q) done at
+joined joins (Mark b p q) more done at = pick (joins b) (λ _. more b q) done at
 
 abbrev pub isSum : ℕ → Bool
 isSum b = eqb b (key "+") || eqb b (key "-")
@@ -41,7 +42,7 @@ abbrev pub isProduct : ℕ → Bool
 isProduct b = eqb b (key "*")
 
 abbrev pub opOf : ℕ → Op
-opOf b = cond (eqb b (key "+")) plus (cond (eqb b (key "-")) minus times)
+opOf b = pick (eqb b (key "+")) plus (pick (eqb b (key "-")) minus times)
 
 module _ (s : List ℕ) where
   -- after e: a mark that joins and another item, again and again, grouped from the left; bounded as lists are
@@ -92,7 +93,7 @@ module _ (s : List ℕ) where
   unfoldable pub declared : ℕ → Reader Name
   declared k = do
     n ← aName s
-    cond (ltb k 48) (give n) (refused 5 (n .place))
+    pick (ltb k 48) (give n) (refused 5 (n .place))
 
   -- "A type is WIRE or VECTOR (a..b) OF WIRE"
   unfoldable pub vectored : Reader (Sort Name)
@@ -178,7 +179,7 @@ module _ (s : List ℕ) where
   stated (Bad p) loops = refuse 3 p
   stated (Named p q) loops = calling (spelling s p q) q
   stated (Number p q v) loops = refuse 4 p
-  stated (Mark b p q) loops = cond (eqb b (key "GENERATE")) (loops p) (refused 4 p) q
+  stated (Mark b p q) loops = pick (eqb b (key "GENERATE")) (loops p) (refused 4 p) q
 
   -- a statement, where so many more loops may stand inside one another: a 9th is refused
   unfoldable pub statement : ℕ → Reader Body
@@ -191,7 +192,7 @@ module _ (s : List ℕ) where
 
   -- "A block: BLOCK, its name, generics, inputs, outputs, then declarations, BEGIN, statements, END and ;", after the k-th BLOCK at p
   unfoldable pub aBlock : ℕ → ℕ → Reader (Block Name Name)
-  aBlock k p = cond (ltb k 64)
+  aBlock k p = pick (ltb k 64)
       (do
         n ← aName s
         gs ← generics

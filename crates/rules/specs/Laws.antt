@@ -4,3 +4,7 @@ pub mod Natural
 pub mod Good
 pub mod Nets
 pub mod Same
+pub mod Keep
+pub mod Runs
+pub mod Cut
+pub mod Placed

@@ -1,10 +1,10 @@
 -- 01, refusals 6 to 8: what a name means inside its block, in expressions and as an argument. Assumes nothing.
 use Prim.Native.Nat.{ℕ}
-use mathlib.Core.Bool.{Bool, true, false, not, _||_, cond}
+use mathlib.Core.Bool.{Bool, true, false, not, _||_}
 use mathlib.Core.List.{List, [], _∷_, map}
 use lib.ListN.{length, getD}
 use lib.Dec.{ltb, eqb}
-use Rattle.rules.specs.Text.{indexOf}
+use Rattle.rules.specs.Text.{pick, indexOf}
 use Rattle.rules.specs.Outcome.{Out, ok, refuse, _>>=_, at, need}
 use Rattle.rules.specs.Syntax.{Name, Exp, number, name, neg, group, both, Sort, wire, vector, num, Arg, whole, part, Decl}
 
@@ -111,7 +111,7 @@ unfoldable pub argument : Scope → List ℕ → Role → Arg Name → Out (Arg 
 argument E L wanted (whole n) = do
   k ← find E n
   _ ← at (n .place) (need (isWire (roleAt E k) || isVector (roleAt E k)) 7)
-  _ ← at (n .place) (need (cond (isWire wanted) (isWire (roleAt E k)) (isVector (roleAt E k))) 8)
+  _ ← at (n .place) (need (pick (isWire wanted) (isWire (roleAt E k)) (isVector (roleAt E k))) 8)
   ok (whole k)
 argument E L wanted (part n e) = do
   k ← find E n

@@ -1,12 +1,13 @@
 -- Readers: what reads a part of a text. A reader takes a place to what it reads there and the place after it, or refuses. Assumes nothing.
 use Prim.Native.Nat.{ℕ, zero, suc, _-_}
 use Prim.Native.String.{String}
-use mathlib.Core.Bool.{Bool, true, false, cond}
+use mathlib.Core.Bool.{Bool, true, false}
 use mathlib.Core.List.{List, [], _∷_}
 use lib.ListN.{length, take, drop}
 use lib.Dec.{eqb}
 use Rattle.rules.specs.declared.Word.{Word}
 use Rattle.rules.specs.declared.Word.the-variants.{Bad, Name as Named, Number, Mark}
+use Rattle.rules.specs.Text.{pick}
 use Rattle.rules.specs.Outcome.{Out, ok, refuse, _>>=_ as _and-then_}
 use Rattle.rules.specs.Words.{wordAt, key}
 use Rattle.rules.specs.Syntax.{Name}
@@ -59,14 +60,14 @@ after (Mark b p q) = q
 module _ (s : List ℕ) where
   -- this mark or reserved word: its place
   unfoldable pub mark : String → Reader ℕ
-  mark k at = marked (wordAt s at) (λ b p. cond (eqb b (key k)) (give p) (refused 4 p))
+  mark k at = marked (wordAt s at) (λ b p. pick (eqb b (key k)) (give p) (refused 4 p))
 
   unfoldable pub aName : Reader Name
   aName at = named s (wordAt s at)
 
   -- after this mark or reserved word the first; without it the second, which has passed no word
   unfoldable pub ifNext : {A : Type 0} → String → Reader A → Reader A → Reader A
-  ifNext k then else at = cond (isNext k (wordAt s at)) (λ _. then (after (wordAt s at))) else at
+  ifNext k then else at = pick (isNext k (wordAt s at)) (λ _. then (after (wordAt s at))) else at
 
   -- ---- lists. An item is told how many stand before it, and the place of the mark before it
 
@@ -75,12 +76,12 @@ module _ (s : List ℕ) where
   unfoldable pub restUpTo : {A B : Type 0} → B → (A → B → B) → (ℕ → ℕ → Reader A) → String → String → ℕ → ℕ → Reader B
   restUpTo none more item sep close zero k = refused 4 0
   restUpTo none more item sep close (suc bound) k = λ at. marked (wordAt s at) λ b p.
-      cond (eqb b (key sep))
+      pick (eqb b (key sep))
       (do
         a ← item k p
         r ← restUpTo none more item sep close bound (suc k)
         give (more a r))
-      (cond (eqb b (key close)) (give none) (refused 4 p))
+      (pick (eqb b (key close)) (give none) (refused 4 p))
 
   abbrev pub rest : {A B : Type 0} → B → (A → B → B) → (ℕ → ℕ → Reader A) → String → String → ℕ → Reader B
   rest none more item sep close k = restUpTo none more item sep close (suc (length s)) k

@@ -1,11 +1,11 @@
 -- 01, refusals 6 to 9: every name of a text is checked, block by block and by byte, and becomes the number of its declaration.
 -- Assumes nothing.
 use Prim.Native.Nat.{ℕ}
-use mathlib.Core.Bool.{Bool, true, false, not, _&&_, cond}
+use mathlib.Core.Bool.{Bool, true, false, not, _&&_}
 use mathlib.Core.List.{List, [], _∷_, _++_, map}
 use lib.ListN.{length, replicate}
 use lib.Dec.{ltb, eqb}
-use Rattle.rules.specs.Text.{bytes, indexOf}
+use Rattle.rules.specs.Text.{bytes, pick, indexOf}
 use Rattle.rules.specs.Outcome.{Out, ok, refuse, _>>=_, at, need, nth}
 use Rattle.rules.specs.Primitives.{inputsOf, primitiveNames}
 use Rattle.rules.specs.Syntax.{Name, Sort, wire, vector, num, Stmts, end, call, loop, Decl, Block, Spelled, Callee, gate, block, Program}
@@ -37,7 +37,7 @@ unfoldable pub called : Spelled → Name → Out Wants
 called Bs n =
     let k = indexOf (n .letters) primitiveNames in
     let b = indexOf (n .letters) (blockNames Bs) in
-    cond (ltb k (length primitiveNames)) (ok (wantedByGate k)) (at (n .place) do
+    pick (ltb k (length primitiveNames)) (ok (wantedByGate k)) (at (n .place) do
       B ← nth 7 Bs b
       ok (wantedBy B b))
 

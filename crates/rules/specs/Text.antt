@@ -2,7 +2,7 @@
 use Prim.Native.Nat.{ℕ, zero, suc, _+_}
 use Prim.Native.Char.{code}
 use Prim.Native.String.{String, [] as empty, _∷_ as _before_}
-use mathlib.Core.Bool.{Bool, true, false, _&&_, cond}
+use mathlib.Core.Bool.{Bool, true, false, _&&_}
 use mathlib.Core.List.{List, [], _∷_}
 use lib.Dec.{eqb}
 
@@ -10,6 +10,11 @@ use lib.Dec.{eqb}
 abbrev pub bytes : String → List ℕ
 bytes empty = []
 bytes (c before t) = code c ∷ bytes t
+
+-- the first if the test holds, else the second
+unfoldable pub pick {ℓ} : {A : Type ℓ} → Bool → A → A → A
+pick true a b = a
+pick false a b = b
 
 -- the same bytes
 unfoldable pub same : List ℕ → List ℕ → Bool
@@ -21,4 +26,4 @@ same (a ∷ l) (b ∷ r) = eqb a b && same l r
 -- the number of the first spelling in a list that is the same, counted from 0; their count if there is none
 unfoldable pub indexOf : List ℕ → List (List ℕ) → ℕ
 indexOf w [] = 0
-indexOf w (v ∷ vs) = cond (same w v) 0 (suc (indexOf w vs))
+indexOf w (v ∷ vs) = pick (same w v) 0 (suc (indexOf w vs))

@@ -6,7 +6,7 @@ use mathlib.Core.List.{List, [], _∷_, map}
 use lib.ListN.{length, getD, take, drop}
 use lib.Dec.{ltb, leb, eqb}
 use lib.Text.{eqt}
-use Rattle.rules.specs.Text.{bytes, indexOf}
+use Rattle.rules.specs.Text.{bytes, pick, indexOf}
 use Rattle.rules.specs.declared.Word.{Word}
 use Rattle.rules.specs.declared.Word.the-variants.{Bad, Name, Number, Mark}
 
@@ -36,7 +36,7 @@ reserved =
 -- how many bytes at the front pass the test
 unfoldable pub run : (ℕ → Bool) → List ℕ → ℕ
 run p [] = 0
-run p (b ∷ r) = cond (p b) (suc (run p r)) 0
+run p (b ∷ r) = pick (p b) (suc (run p r)) 0
 
 unfoldable pub all : (ℕ → Bool) → List ℕ → Bool
 all p [] = true
@@ -50,24 +50,24 @@ valueOf v (d ∷ r) = valueOf (v * 10 + (d - 48)) r
 -- a word from p to q by its letters: "A name is a letter and up to 15 more"; "A number is 1 to 6 digits"
 unfoldable pub spelled : ℕ → ℕ → List ℕ → Word
 spelled p q w =
-    cond (ltb (indexOf w (map bytes reserved)) (length reserved)) (Mark (suc (indexOf w (map bytes reserved))) p q)
-    (cond (all isDigit w && leb (length w) 6) (Number p q (valueOf 0 w))
-    (cond (isLetter (getD w 0 0) && leb (length w) 16) (Name p q) (Bad p)))
+    pick (ltb (indexOf w (map bytes reserved)) (length reserved)) (Mark (suc (indexOf w (map bytes reserved))) p q)
+    (pick (all isDigit w && leb (length w) 6) (Number p q (valueOf 0 w))
+    (pick (isLetter (getD w 0 0) && leb (length w) 16) (Name p q) (Bad p)))
 
 -- what begins at p: "An unbroken run of letters, digits and underscores is one word"; a mark; two dots
 unfoldable pub begun : List ℕ → ℕ → Word
 begun s p =
     let b = getD s p 0 in
     let n = run inWord (drop p s) in
-    cond (inWord b) (spelled p (p + n) (take n (drop p s)))
-    (cond (isMark b) (Mark b p (p + 1))
-    (cond (eqb b 46 && eqb (getD s (p + 1) 0) 46) (Mark b p (p + 2)) (Bad p)))
+    pick (inWord b) (spelled p (p + n) (take n (drop p s)))
+    (pick (isMark b) (Mark b p (p + 1))
+    (pick (eqb b 46 && eqb (getD s (p + 1) 0) 46) (Mark b p (p + 2)) (Bad p)))
 
 -- the first word at or after a place; at the end of the text, the end
 unfoldable pub wordAt : List ℕ → ℕ → Word
 wordAt s at =
     let p = at + run isSeparator (drop at s) in
-    cond (ltb p (length s)) (begun s p) (Mark 0 (length s) (length s))
+    pick (ltb p (length s)) (begun s p) (Mark 0 (length s) (length s))
 
 -- ---- how a mark or a reserved word is called: `key ";"`, `key "BEGIN"`, and `key ""` for the end
 

@@ -60,22 +60,23 @@ past a b c d e w n =
     let q : 5 + n ≡ suc (suc (suc (suc (suc n)))) = omega arith in ap (λ i. getD (a ∷ b ∷ c ∷ d ∷ e ∷ w) i 0) q in
     rw (g, f 1, f 2, f 3, f 4)
 
-record-of : (gs : List Gate) (i : ℕ) (d : Gate) → i < length gs → record-at (gateWords gs) (5 * i) ≡ getD gs i d
+record-of : (gs : List Gate) (z : List ℕ) (i : ℕ) (d : Gate) → i < length gs → record-at (gateWords gs ++ z) (5 * i) ≡ getD gs i d
 unfolding gateWords
-record-of [] i d h = absurd (omega arith)
-record-of (g ∷ gs) zero d h = refl
-record-of (g ∷ gs) (suc i) d h =
+record-of [] z i d h = absurd (omega arith)
+record-of (g ∷ gs) z zero d h = refl
+record-of (g ∷ gs) z (suc i) d h =
     let q : 5 * suc i ≡ 5 + 5 * i = omega arith in
-    ap (record-at (gateWords (g ∷ gs))) q ∙ past (g .kind) (g .a) (g .b) (g .c) (g .out) (gateWords gs) (5 * i) ∙ record-of gs i d (omega arith)
+    ap (record-at (gateWords (g ∷ gs) ++ z)) q ∙ past (g .kind) (g .a) (g .b) (g .c) (g .out) (gateWords gs ++ z) (5 * i) ∙ record-of gs z i d (omega arith)
 
-pub gate-of : (i o w : ℕ) (gs : List Gate) (j : ℕ) (d : Gate) → j < length gs → gateAt (netWords i o w gs) j ≡ getD gs j d
+-- whatever words z stand after the records
+pub gate-of : (i o w : ℕ) (gs : List Gate) (z : List ℕ) (j : ℕ) (d : Gate) → j < length gs → gateAt (netWords i o w gs ++ z) j ≡ getD gs j d
 unfolding netWords
-gate-of i o w gs j d h =
-    let f : (k : ℕ) → getD (i ∷ o ∷ w ∷ length gs ∷ gateWords gs) (4 + 5 * j + k) 0 ≡ getD (gateWords gs) (5 * j + k) 0 = λ k.
-    let q : 4 + 5 * j + k ≡ suc (suc (suc (suc (5 * j + k)))) = omega arith in ap (λ n. getD (i ∷ o ∷ w ∷ length gs ∷ gateWords gs) n 0) q in
-    let g : getD (i ∷ o ∷ w ∷ length gs ∷ gateWords gs) (4 + 5 * j) 0 ≡ getD (gateWords gs) (5 * j) 0 =
-    let q : 4 + 5 * j ≡ suc (suc (suc (suc (5 * j)))) = omega arith in ap (λ n. getD (i ∷ o ∷ w ∷ length gs ∷ gateWords gs) n 0) q in
-    rw (g, f 1, f 2, f 3, f 4) (record-of gs j d h)
+gate-of i o w gs z j d h =
+    let f : (k : ℕ) → getD (i ∷ o ∷ w ∷ length gs ∷ (gateWords gs ++ z)) (4 + 5 * j + k) 0 ≡ getD (gateWords gs ++ z) (5 * j + k) 0 = λ k.
+    let q : 4 + 5 * j + k ≡ suc (suc (suc (suc (5 * j + k)))) = omega arith in ap (λ n. getD (i ∷ o ∷ w ∷ length gs ∷ (gateWords gs ++ z)) n 0) q in
+    let g : getD (i ∷ o ∷ w ∷ length gs ∷ (gateWords gs ++ z)) (4 + 5 * j) 0 ≡ getD (gateWords gs ++ z) (5 * j) 0 =
+    let q : 4 + 5 * j ≡ suc (suc (suc (suc (5 * j)))) = omega arith in ap (λ n. getD (i ∷ o ∷ w ∷ length gs ∷ (gateWords gs ++ z)) n 0) q in
+    rw (g, f 1, f 2, f 3, f 4) (record-of gs z j d h)
 
 pub words-length : (gs : List Gate) → length (gateWords gs) ≡ 5 * length gs
 unfolding gateWords

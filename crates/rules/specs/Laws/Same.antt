@@ -238,10 +238,7 @@ module _ (P : Program) (ports : List (List Signal)) (M : Block ℕ Callee) (i o 
     (ei : declare (generics []) (M .inputs) (blanks Wires (M .generics)) start ≡ ok i)
     (eo : declare (generics []) (M .outputs) (i .0) (i .1) ≡ ok o)
     (el : declare (generics []) (M .locals) (o .0) (o .1) ≡ ok l)
-    (es : unfolds (i .1 .next) (deep (i .1 .next) P 15) (M .body) (generics []) (l .0) (l .1) ≡ ok t) where
-  blank : Frame Range
-  blank = blanks Wires (M .generics)
-
+    (es : unfolds (i .1 .next) (deep (i .1 .next) P 15) (M .body) (generics []) (l .0) (l .1) ≡ ok t) (z : List ℕ) where
   tied : Ports (blanks Wires (M .generics)) start ports β o
   tied = declare-ports (generics []) (M .inputs ++ M .outputs) _ start ports β o (declare-append (generics []) (M .inputs) (M .outputs) _ start ei eo) et
 
@@ -268,13 +265,10 @@ module _ (P : Program) (ports : List (List Signal)) (M : Block ℕ Callee) (i o 
   unfolding AllHold
   none-hold w = rw (tied .gates) tt
 
-  net : List ℕ
-  net = netWords (i .1 .next) (o .1 .next - i .1 .next) (t .next) (t .gates)
-
   blankGate : Gate
   blankGate = record { kind = 0; a = 0; b = 0; c = 0; out = 0 }
 
-  pub there : (d : ℕ) → AllowsAt P d (P .main) [] ports → NetAllows (netWords (i .1 .next) (o .1 .next - i .1 .next) (t .next) (t .gates)) (joined ports)
+  pub there : (d : ℕ) → AllowsAt P d (P .main) [] ports → NetAllows (netWords (i .1 .next) (o .1 .next - i .1 .next) (t .next) (t .gates) ++ z) (joined ports)
   unfolding AllowsAt BlockAllows Main netWords
   there zero h = absurd h
   there (suc d) h =
@@ -284,12 +278,12 @@ module _ (P : Program) (ports : List (List Signal)) (M : Block ℕ Callee) (i o 
       record {
         wires = v;
         given = ap (carried v 0) count ∙ sym (carried-agree 0 (length (joined ports)) (o .1 .next) (omega (arith, tied .next)) a) ∙ q;
-        hold = λ j h. subst (GateHolds v) (sym (gate-of _ _ _ (t .gates) j blankGate h)) (list-hold v (t .gates) blankGate g j h);
+        hold = λ j h. subst (GateHolds v) (sym (gate-of _ _ _ (t .gates) z j blankGate h)) (list-hold v (t .gates) blankGate g j h);
       }
 
-  pub back : NetAllows (netWords (i .1 .next) (o .1 .next - i .1 .next) (t .next) (t .gates)) (joined ports) → AllowsAt P 16 (P .main) [] ports
+  pub back : NetAllows (netWords (i .1 .next) (o .1 .next - i .1 .next) (t .next) (t .gates) ++ z) (joined ports) → AllowsAt P 16 (P .main) [] ports
   unfolding AllowsAt BlockAllows Main netWords
   back n =
-      let g = hold-list (n .wires) (t .gates) blankGate (λ j h. subst (GateHolds (n .wires)) (gate-of _ _ _ (t .gates) j blankGate h) (n .hold j h)) in
+      let g = hold-list (n .wires) (t .gates) blankGate (λ j h. subst (GateHolds (n .wires)) (gate-of _ _ _ (t .gates) z j blankGate h) (n .hold j h)) in
       when-ok _ (nth-any 9 7 (P .blocks) (P .main) eM) (when-ok _ et
       (subst (Main 15) (views (n .wires) (sym (ap (carried (n .wires) 0) count) ∙ n .given)) (good 0 .back (n .wires) g .1)))
