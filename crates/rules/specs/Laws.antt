@@ -8,3 +8,4 @@ pub mod Keep
 pub mod Runs
 pub mod Cut
 pub mod Placed
+pub mod Fair
