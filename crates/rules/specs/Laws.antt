@@ -9,3 +9,5 @@ pub mod Runs
 pub mod Cut
 pub mod Placed
 pub mod Fair
+pub mod Enough
+pub mod Within

@@ -178,7 +178,7 @@ module _ (s : List ℕ) where
   fair-chainUpTo joins item f (suc bound) e at h =
       fair-joined joins _ _ (word-placed s at h) h (λ b. fair-bind f λ x. fair-chainUpTo joins item f bound (both (opOf b) e x)) (fair-give e)
 
-  fair-chain : (joins : ℕ → Bool) (item : Reader Expr) → FairReader item → FairReader (chain s joins item)
+  pub fair-chain : (joins : ℕ → Bool) (item : Reader Expr) → FairReader item → FairReader (chain s joins item)
   unfolding chain
   fair-chain joins item f = fair-bind f λ e. fair-chainUpTo joins item f (suc (length s)) e
 
@@ -201,7 +201,7 @@ module _ (s : List ℕ) where
 
   -- ---- blocks, up to BEGIN
 
-  fair-declared : (k : ℕ) → FairReader (declared s k)
+  pub fair-declared : (k : ℕ) → FairReader (declared s k)
   unfolding declared _>>=_ aName
   fair-declared k at h = go (word-placed s at h)
     where
@@ -216,11 +216,11 @@ module _ (s : List ℕ) where
   unfolding aType
   fair-aType = fair-ifNext "VECTOR" fair-vectored (fair-bind (fair-mark "WIRE") λ _. fair-give wire)
 
-  fair-port : (k p : ℕ) → FairReader (port s k p)
+  pub fair-port : (k p : ℕ) → FairReader (port s k p)
   unfolding port
   fair-port k p = fair-bind (fair-declared k) λ n. fair-bind (fair-mark ":") λ _. fair-bind fair-aType λ t. fair-give _
 
-  fair-local : (k p : ℕ) → FairReader (local s k p)
+  pub fair-local : (k p : ℕ) → FairReader (local s k p)
   unfolding local
   fair-local k p = fair-bind (fair-declared k) λ n. fair-bind (fair-mark ":") λ _. fair-bind (fair-ifNext "NUM" (fair-give num) fair-aType) λ t. fair-bind (fair-mark ";") λ _. fair-give _
 
@@ -234,7 +234,7 @@ module _ (s : List ℕ) where
 
   -- ---- statements
 
-  fair-argument : FairReader (argument s)
+  pub fair-argument : FairReader (argument s)
   unfolding argument
   fair-argument = fair-bind fair-aName λ n. fair-ifNext "(" (fair-bind fair-expression λ e. fair-bind (fair-mark ")") λ _. fair-give (part n e)) (fair-give (whole n))
 
@@ -258,7 +258,7 @@ module _ (s : List ℕ) where
   fair-stated f (mark {p = x} {q = z} a b c) g = fair-from (omega arith) (fair-pick _ (g x (omega arith)) (fair-no 4 x (omega arith) (omega arith) (omega arith)) z c)
   fair-stated f (the-end h) g = fair-from h (fair-pick _ (g (length s) (omega arith)) (fair-no 4 (length s) (omega arith) (omega arith) (omega arith)) (length s) (omega arith))
 
-  fair-statement : (left : ℕ) → FairReader (statement s left)
+  pub fair-statement : (left : ℕ) → FairReader (statement s left)
   unfolding statement
   fair-statement zero at h = fair-stated _ (word-placed s at h) (λ p l. fair-no 5 p (omega arith) (omega arith) l)
   fair-statement (suc left) at h = fair-stated _ (word-placed s at h) (λ p l. fair-looping _ p (fair-any end before _ ";" "END" (λ k p l. fair-statement left) 0))
@@ -267,7 +267,7 @@ module _ (s : List ℕ) where
   unfolding body
   fair-body = fair-any end before _ ";" "END" (λ k p l. fair-statement 8) 0
 
-  fair-aBlock : (k p : ℕ) → p ≤ length s → FairReader (aBlock s k p)
+  pub fair-aBlock : (k p : ℕ) → p ≤ length s → FairReader (aBlock s k p)
   unfolding aBlock
   fair-aBlock k p l =
       fair-pick (ltb k 64)
@@ -276,6 +276,6 @@ module _ (s : List ℕ) where
       fair-bind fair-body λ b. fair-bind (fair-mark ";") λ _. fair-give _)
       (fair-no 5 p (omega arith) (omega arith) l)
 
-  fair-blocks : FairReader (blocks s)
+  pub fair-blocks : FairReader (blocks s)
   unfolding blocks
   fair-blocks = marked-then "BLOCK" λ p l. fair-bind (fair-aBlock 0 p l) λ b. fair-bind (fair-restUpTo [] _∷_ (aBlock s) "BLOCK" "" fair-aBlock (suc (length s)) 1) λ r. fair-give (b ∷ r)
