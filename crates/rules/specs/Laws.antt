@@ -11,3 +11,4 @@ pub mod Placed
 pub mod Fair
 pub mod Enough
 pub mod Within
+pub mod Bytes
