@@ -12,3 +12,4 @@ pub mod Fair
 pub mod Enough
 pub mod Within
 pub mod Bytes
+pub mod Rings

@@ -17,3 +17,4 @@ pub mod Flat
 pub mod Flatten
 pub mod Laws
 pub mod Demands
+pub mod Edges
