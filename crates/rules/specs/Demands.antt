@@ -20,7 +20,7 @@ use Rattle.rules.specs.Laws.Cut.{alike}
 use Rattle.rules.specs.Laws.Keep.{unfolded-well}
 use Rattle.rules.specs.Laws.Runs.{sound, shown, outs, allowed, only}
 use Rattle.rules.specs.Laws.Bytes.{byte-inj, byte-not-2, byte-below}
-use Rattle.rules.specs.Laws.Within.{done}
+use Rattle.rules.specs.Laws.Late.{done}
 
 module _ (text : List ℕ) (work net : ℕ) (success : flatten text work net .number ≡ 0) where
   -- what the lent netlist holds, whole

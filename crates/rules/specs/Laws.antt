@@ -13,3 +13,5 @@ pub mod Enough
 pub mod Within
 pub mod Bytes
 pub mod Rings
+pub mod Scoped
+pub mod Late

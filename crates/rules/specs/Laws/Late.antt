@@ -1,0 +1,337 @@
+-- Which refusals unfolding gives: of a text whose names are resolved, 10 to 18. So each number of 01's table comes from its own layer,
+-- and a success is known by its number, 0. Assumes nothing.
+use mathlib.Core.Path.{_≡_, refl, sym, ap, ap₂, _∙_, subst}
+use Prim.Native.Nat.{ℕ, zero, suc, _+_, _≤_, _<_}
+use native.Mathlib.Omega.{arith}
+use mathlib.Core.Bool.{Bool, true, false, _&&_}
+use mathlib.Core.List.{List, [], _∷_, _++_, map, append-nil, append-assoc}
+use lib.ListN.{length, getD, replicate, length-map}
+use lib.Dec.{T, leb, ltb, eqb, lt→ltb, eqb→eq, eqb-refl}
+use lib.IntN.{ℤ, pos, negsuc, sucℤ, _-ℤ_}
+use Rattle.rules.specs.Outcome.{Out, ok, refuse, _>>=_, at, need, nth}
+use Rattle.rules.specs.Primitives.{table, inputsOf}
+use Rattle.rules.specs.Syntax.{Name, Exp, number, name, neg, group, both, Sort, wire, vector, num, Arg, whole, part, Stmts, end, call, loop, Decl, Block, Callee, gate, block, Program}
+use Rattle.rules.specs.Names.{Role, a-generic, a-wire, a-vector, an-index, isWire, roleOf}
+use Rattle.rules.specs.Values.{Env, ranged, eval, evals, width, Shape, shape}
+use Rattle.rules.specs.Frames.{Cells, Sig, Frame, offset, blanks, resolve, resolves, tie, singles, ends}
+use Rattle.rules.specs.Unfold.{Range, Wires, State, tick, declare, emit, Act, addGate, act, turns, unfolds, enter, deep, Unfolded, unfoldMain}
+use Rattle.rules.specs.Flatten.{program, flattened, answer, flatten}
+use Rattle.rules.specs.Laws.Outcomes.{no-ok, ok-inj, inv, inv-at, at-ok, need-yes, yes-need}
+use Rattle.rules.specs.Laws.Within.{Within, fine, no, wider, within-then, within-next, within-at, within-need, within-nth, grammar-within, names-within}
+use Rattle.rules.specs.Laws.Scoped.{roles, portsOf, namesOf, ArgOk, ArgsOk, Wanted, by-gate, by-block, StmtsOk, BlocksOk, Scoped, names-scoped}
+
+abbrev Unfolding : {A : Type 0} → Out A → Type 0
+Unfolding o = Within 10 18 o
+
+-- ---- values
+
+ranged-within : (v : ℤ) → Unfolding (ranged v)
+unfolding ranged
+ranged-within v = within-then (within-need _ 10 (omega arith) (omega arith)) λ _. fine
+
+eval-within : (ρ : Env) (e : Exp ℕ) → Unfolding (eval ρ e)
+unfolding eval
+eval-within ρ (number n) = ranged-within _
+eval-within ρ (name i) = ranged-within _
+eval-within ρ (neg e) = within-then (eval-within ρ e) λ x. ranged-within _
+eval-within ρ (group e) = eval-within ρ e
+eval-within ρ (both op d e) = within-then (eval-within ρ d) λ x. within-then (eval-within ρ e) λ y. ranged-within _
+
+evals-within : (ρ : Env) (es : List (Exp ℕ)) → Unfolding (evals ρ es)
+unfolding evals
+evals-within ρ [] = fine
+evals-within ρ (e ∷ es) = within-then (eval-within ρ e) λ v. within-then (evals-within ρ es) λ vs. fine
+
+width-within : (d : ℤ) → Unfolding (width d)
+unfolding width
+width-within (pos k) = within-then (within-need _ 11 (omega arith) (omega arith)) λ _. fine
+width-within (negsuc k) = no {n = 11} (omega arith) (omega arith)
+
+shape-within : (ρ : Env) (t : Sort ℕ) → Unfolding (shape ρ t)
+unfolding shape
+shape-within ρ wire = fine
+shape-within ρ (vector a b) = within-then (eval-within ρ a) λ x. within-then (eval-within ρ b) λ y. within-then (width-within _) λ n. fine
+shape-within ρ num = fine
+
+-- a WIRE has one wire
+shape-one : (ρ : Env) (t : Sort ℕ) {h : Shape} → shape ρ t ≡ ok h → T (isWire (roleOf t)) → h .size ≡ 1
+unfolding shape roleOf isWire
+shape-one ρ wire e t = ap (λ h. h .size) (sym (ok-inj e))
+shape-one ρ (vector a b) e t = absurd t
+shape-one ρ num e t = absurd t
+
+offset-within : (d : ℤ) → Unfolding (offset d)
+unfolding offset
+offset-within (pos k) = fine
+offset-within (negsuc k) = no {n = 12} (omega arith) (omega arith)
+
+-- ---- names that suit their roles: what is a wire has one
+
+unfoldable Suits : Frame Range → List Role → Type 0
+Suits [] [] = Unit {0}
+Suits [] (r ∷ E) = ⊥
+Suits (x ∷ σ) [] = ⊥
+Suits (x ∷ σ) (r ∷ E) = (T (isWire r) → x .cells .len ≡ 1) × Suits σ E
+
+suits-append : (σ τ : Frame Range) (E F : List Role) → Suits σ E → Suits τ F → Suits (σ ++ τ) (E ++ F)
+unfolding Suits
+suits-append [] τ [] F p q = q
+suits-append [] τ (r ∷ E) F p q = absurd p
+suits-append (x ∷ σ) τ [] F p q = absurd p
+suits-append (x ∷ σ) τ (r ∷ E) F p q = (p .0, suits-append σ τ E F (p .1) q)
+
+suits-blanks : (ns : List Name) → Suits (blanks Wires ns) (map (λ n. a-generic) ns)
+unfolding Suits blanks isWire
+suits-blanks [] = tt
+suits-blanks (n ∷ ns) = ((λ t. absurd t), suits-blanks ns)
+
+suits-nth : (σ : Frame Range) (E : List Role) (k : ℕ) → Suits σ E → k < length E → (x : Sig Range) × (nth 7 σ k ≡ ok x) × (T (isWire (getD E k a-generic)) → x .cells .len ≡ 1)
+unfolding Suits nth
+suits-nth [] [] k p h = absurd (omega arith)
+suits-nth [] (r ∷ E) k p h = absurd p
+suits-nth (x ∷ σ) [] k p h = absurd p
+suits-nth (x ∷ σ) (r ∷ E) zero p h = (x, refl, p .0)
+suits-nth (x ∷ σ) (r ∷ E) (suc k) p h = suits-nth σ E k (p .1) (omega arith)
+
+is-there : {A B : Type 0} {o : Out A} {a : A} (f : A → Out B) → o ≡ ok a → Unfolding (f a) → Unfolding (o >>= f)
+unfolding _>>=_
+is-there f e w = rw e w
+
+-- wires that suit the roles wanted
+unfoldable Sized : List Role → List Range → Type 0
+Sized [] [] = Unit {0}
+Sized [] (r ∷ rs) = ⊥
+Sized (w ∷ ws) [] = ⊥
+Sized (w ∷ ws) (r ∷ rs) = (T (isWire w) → r .len ≡ 1) × Sized ws rs
+
+module _ (ρ : Env) (σ : Frame Range) (E : List Role) (suits : Suits σ E) where
+  resolve-within : (w : Role) (a : Arg ℕ) → ArgOk E w a → Unfolding (resolve Wires ρ σ a)
+  unfolding resolve ArgOk
+  resolve-within w (whole k) h = is-there _ (suits-nth σ E k suits (h .0) .1) fine
+  resolve-within w (part k e) h =
+      is-there _ (suits-nth σ E k suits h .1)
+      (within-then (eval-within ρ e) λ v. within-then (offset-within _) λ i. within-then (within-need _ 12 (omega arith) (omega arith)) λ _. fine)
+
+  resolve-sized : (w : Role) (a : Arg ℕ) {r : Range} → ArgOk E w a → resolve Wires ρ σ a ≡ ok r → T (isWire w) → r .len ≡ 1
+  unfolding resolve ArgOk
+  resolve-sized w (whole k) h e t =
+      inv _ _ e λ x ex e₁.
+      let (y, ey, one) = suits-nth σ E k suits (h .0) in
+      ap (λ r. r .len) (sym (ok-inj e₁)) ∙ ap (λ x. x .cells .len) (ok-inj (sym ex ∙ ey)) ∙ one (h .1 t)
+  resolve-sized w (part k x) h e t =
+      inv _ _ e λ _ _ e₁.
+      inv _ _ e₁ λ _ _ e₂.
+      inv _ _ e₂ λ _ _ e₃.
+      inv _ _ e₃ λ _ _ e₄.
+      ap (λ r. r .len) (sym (ok-inj e₄))
+
+  resolves-within : (ws : List Role) (args : List (Arg ℕ)) → ArgsOk E ws args → Unfolding (resolves Wires ρ σ args)
+  unfolding resolves ArgsOk
+  resolves-within [] [] h = fine
+  resolves-within [] (a ∷ args) h = absurd h
+  resolves-within (w ∷ ws) [] h = absurd h
+  resolves-within (w ∷ ws) (a ∷ args) h = within-then (resolve-within w a (h .0)) λ c. within-then (resolves-within ws args (h .1)) λ cs. fine
+
+  resolves-sized : (ws : List Role) (args : List (Arg ℕ)) {rs : List Range} → ArgsOk E ws args → resolves Wires ρ σ args ≡ ok rs → Sized ws rs
+  unfolding resolves ArgsOk Sized
+  resolves-sized [] [] h e = rw (← (ok-inj e)) tt
+  resolves-sized [] (a ∷ args) h e = absurd h
+  resolves-sized (w ∷ ws) [] h e = absurd h
+  resolves-sized (w ∷ ws) (a ∷ args) h e =
+      inv _ _ e λ c ec e₁.
+      inv _ _ e₁ λ cs es e₂.
+      rw (← (ok-inj e₂)) (resolve-sized w a (h .0) ec, resolves-sized ws args (h .1) es)
+
+-- ---- ports and locals
+
+yes-and : (a b : Bool) → T a → T b → T (a && b)
+yes-and true b x y = y
+yes-and false b x y = x
+
+done-at : (p : ℕ) → at {A = Unit {0}} p (ok tt) ≡ ok tt
+unfolding at
+done-at p = refl
+
+suits-one : (r : Role) (x : Sig Range) → (T (isWire r) → x .cells .len ≡ 1) → Suits (x ∷ []) (r ∷ [])
+unfolding Suits
+suits-one r x h = (h, tt)
+
+map-both : {A B : Type 0} (f : A → B) (xs ys : List A) → map f (xs ++ ys) ≡ map f xs ++ map f ys
+map-both f [] ys = refl
+map-both f (x ∷ xs) ys = ap (λ l. f x ∷ l) (map-both f xs ys)
+
+-- a block's names are its generics, its ports and its locals
+named-all : (B : Block ℕ Callee) → (map (λ n. a-generic) (B .generics) ++ portsOf B) ++ roles (B .locals) ≡ namesOf B
+named-all B =
+    append-assoc (map (λ n. a-generic) (B .generics)) (portsOf B) (roles (B .locals))
+    ∙ ap (λ l. map (λ n. a-generic) (B .generics) ++ l) (sym (map-both (λ d. roleOf (d .sort)) (B .inputs ++ B .outputs) (B .locals)))
+
+named-main : (B : Block ℕ Callee) → ((map (λ n. a-generic) (B .generics) ++ roles (B .inputs)) ++ roles (B .outputs)) ++ roles (B .locals) ≡ namesOf B
+named-main B =
+    ap (λ l. l ++ roles (B .locals)) (append-assoc (map (λ n. a-generic) (B .generics)) (roles (B .inputs)) (roles (B .outputs)) ∙ ap (λ l. map (λ n. a-generic) (B .generics) ++ l) (sym (map-both (λ d. roleOf (d .sort)) (B .inputs) (B .outputs))))
+    ∙ named-all B
+
+tie-within : (ρ : Env) (ds : List (Decl ℕ)) (rs : List Range) → Sized (roles ds) rs → Unfolding (tie Wires ρ ds rs)
+unfolding tie Sized
+tie-within ρ [] [] z = fine
+tie-within ρ [] (r ∷ rs) z = absurd z
+tie-within ρ (d ∷ ds) [] z = absurd z
+tie-within ρ (d ∷ ds) (r ∷ rs) z = within-then (shape-within ρ (d .sort)) λ h. within-then (within-need _ 13 (omega arith) (omega arith)) λ _. within-then (tie-within ρ ds rs (z .1)) λ r. fine
+
+tie-suits : (ρ : Env) (ds : List (Decl ℕ)) (rs : List Range) {τ : Frame Range} → tie Wires ρ ds rs ≡ ok τ → Suits τ (roles ds)
+unfolding tie Suits
+tie-suits ρ [] [] e = rw (← (ok-inj e)) tt
+tie-suits ρ [] (r ∷ rs) e = absurd (no-ok e)
+tie-suits ρ (d ∷ ds) [] e = absurd (no-ok e)
+tie-suits ρ (d ∷ ds) (r ∷ rs) e =
+    inv _ _ e λ h eh e₁.
+    inv _ _ e₁ λ _ t e₂.
+    inv _ _ e₂ λ τ et e₃.
+    rw (← (ok-inj e₃)) ((λ w. sym (eqb→eq (h .size) (r .len) (need-yes _ _ t)) ∙ shape-one ρ (d .sort) eh w), tie-suits ρ ds rs et)
+
+declare-within : (ρ : Env) (ds : List (Decl ℕ)) (σ : Frame Range) (s : State) → Unfolding (declare ρ ds σ s)
+unfolding declare
+declare-within ρ [] σ s = fine
+declare-within ρ (d ∷ ds) σ s =
+    within-then (within-at (d .name .place) (shape-within ρ (d .sort))) λ h. within-then (within-at (d .name .place) (within-need _ 16 (omega arith) (omega arith))) λ _. declare-within ρ ds _ _
+
+declare-suits : (ρ : Env) (ds : List (Decl ℕ)) (σ : Frame Range) (s : State) (E : List Role) {r : Frame Range × State} → Suits σ E → declare ρ ds σ s ≡ ok r → Suits (r .0) (E ++ roles ds)
+unfolding declare
+declare-suits ρ [] σ s E u e = rw (← (ok-inj e)) (subst (Suits σ) (sym (append-nil E)) u)
+declare-suits ρ (d ∷ ds) σ s E {r} u e =
+    inv-at _ _ _ e λ h eh e₁.
+    inv-at _ _ _ e₁ λ _ _ e₂.
+    subst (Suits (r .0)) (append-assoc E (roleOf (d .sort) ∷ []) (roles ds))
+    (declare-suits ρ ds _ _ (E ++ (roleOf (d .sort) ∷ [])) (suits-append σ _ E _ u (suits-one (roleOf (d .sort)) _ (shape-one ρ (d .sort) eh))) e₂)
+
+-- ---- calls
+
+tick-within : (s : State) → Unfolding (tick s)
+unfolding tick
+tick-within s = within-then (within-need _ 15 (omega arith) (omega arith)) λ _. fine
+
+wires-single : (n : ℕ) (rs : List Range) → Sized (replicate n a-wire) rs → (length rs ≡ n) × T (singles Wires rs)
+unfolding Sized singles isWire
+wires-single zero [] z = (refl, tt)
+wires-single zero (r ∷ rs) z = absurd z
+wires-single (suc n) [] z = absurd z
+wires-single (suc n) (r ∷ rs) z =
+    let (l, t) = wires-single n rs (z .1) in
+    (ap suc l, yes-and (eqb (r .len) 1) (singles Wires rs) (subst (λ k. T (eqb k 1)) (sym (z .0 tt)) tt) t)
+
+-- what a call does, on wires that suit what it wants
+abbrev Acts : List Role → Act → Type 0
+Acts ws go = (p : ℕ) (vs : List ℤ) (rs : List Range) (s : State) → Sized ws rs → Unfolding (go p vs rs s)
+
+gate-within : (nin k : ℕ) → k < 10 → Acts (replicate (suc (inputsOf k)) a-wire) (addGate nin k)
+unfolding addGate emit ends
+gate-within nin k h p vs rs s z =
+    let (l, t) = wires-single (suc (inputsOf k)) rs z in
+    let q : T (ltb k (length table) && eqb (length rs) (suc (inputsOf k)) && singles Wires rs) =
+    yes-and (ltb k (length table) && eqb (length rs) (suc (inputsOf k))) (singles Wires rs) (yes-and (ltb k (length table)) (eqb (length rs) (suc (inputsOf k))) (lt→ltb k 10 h) (subst (λ n. T (eqb n (suc (inputsOf k)))) (sym l) (eqb-refl (suc (inputsOf k))))) t in
+    is-there _ (ap (at p) (yes-need _ 8 q) ∙ done-at p)
+    (within-at p (within-then (within-need _ 17 (omega arith) (omega arith)) λ _. within-then (within-need _ 18 (omega arith) (omega arith)) λ _. fine))
+
+turns-within : (p : ℕ) (f : ℤ → State → Out State) → ((v : ℤ) (s : State) → Unfolding (f v s)) → (v : ℤ) (n : ℕ) (s : State) → Unfolding (turns p f v n s)
+unfolding turns
+turns-within p f g v zero s = fine
+turns-within p f g v (suc n) s = within-then (within-at p (tick-within s)) λ s. within-then (g v s) λ s. turns-within p f g (sucℤ v) n s
+
+-- what may be done is within, and so is what it then does
+record Deeper (ws : List Role) (o : Out Act) : Type 0 where
+  may : Unfolding o
+  does : (go : Act) → o ≡ ok go → Acts ws go
+
+module _ (nin : ℕ) (deeper : ℕ → Out Act) (sigs : List (List Role)) (below : (b : ℕ) (ws : List Role) → nth 7 sigs b ≡ ok ws → Deeper ws (deeper b)) where
+  act-within : {c : Callee} {ws : List Role} → Wanted sigs c ws → Deeper ws (act nin deeper c)
+  unfolding act
+  act-within (by-gate {k} h) = record { may = fine; does = λ go e. subst (Acts (replicate (suc (inputsOf k)) a-wire)) (ok-inj e) (gate-within nin k h) }
+  act-within (by-block {b} {ws} e) = below b ws e
+
+  unfolds-within : (E : List Role) (c : Stmts ℕ Callee) → StmtsOk sigs E c → (ρ : Env) (σ : Frame Range) (s : State) → Suits σ E → Unfolding (unfolds nin deeper c ρ σ s)
+  unfolding unfolds StmtsOk
+  unfolds-within E end h ρ σ s u = fine
+  unfolds-within E (call p c gs ins outs rest) h ρ σ s u =
+      let (ws, w, a) = h .0 in
+      let d = act-within w in
+      within-then (within-at p (tick-within s)) λ s.
+      within-next (within-at p (d .may)) λ go eg.
+      within-then (within-at p (evals-within ρ gs)) λ vs.
+      within-next (within-at p (resolves-within ρ σ E u ws (ins ++ outs) a)) λ rs er.
+      within-then (d .does go (at-ok p _ eg) p vs rs s (resolves-sized ρ σ E u ws (ins ++ outs) a (at-ok p _ er))) λ s.
+      unfolds-within E rest (h .1) ρ σ s u
+  unfolds-within E (loop p i a b body rest) h ρ σ s u =
+      within-then (within-at p (tick-within s)) λ s. within-then (within-at p (eval-within ρ a)) λ x. within-then (within-at p (eval-within ρ b)) λ y.
+      within-then (turns-within p _ (λ v t. unfolds-within E body (h .0) _ σ t u) x _ s) λ s. unfolds-within E rest (h .1) ρ σ s u
+
+  enter-within : (B : Block ℕ Callee) → StmtsOk sigs (namesOf B) (B .body) → Acts (portsOf B) (enter nin deeper B)
+  unfolding enter
+  enter-within B scoped p vs rs s z =
+      within-next (within-at p (tie-within _ (B .inputs ++ B .outputs) rs z)) λ τ et.
+      within-next (within-at p (declare-within _ (B .locals) _ s)) λ r er.
+      unfolds-within (namesOf B) (B .body) scoped _ _ _
+      (subst (Suits (r .0)) (named-all B) (declare-suits _ (B .locals) _ s (map (λ n. a-generic) (B .generics) ++ portsOf B) (suits-append _ τ _ (portsOf B) (suits-blanks (B .generics)) (tie-suits _ (B .inputs ++ B .outputs) rs (at-ok p _ et))) (at-ok p _ er)))
+
+nth-both : (sigs : List (List Role)) (Bs : List (Block ℕ Callee)) (b : ℕ) {ws : List Role} → BlocksOk sigs Bs → nth 7 (map portsOf Bs) b ≡ ok ws
+    → (B : Block ℕ Callee) × (nth 7 Bs b ≡ ok B) × (portsOf B ≡ ws) × StmtsOk sigs (namesOf B) (B .body)
+unfolding nth BlocksOk
+nth-both sigs [] b h e = absurd (no-ok e)
+nth-both sigs (B ∷ Bs) zero h e = (B, refl, ok-inj e, h .0)
+nth-both sigs (B ∷ Bs) (suc b) h e = nth-both sigs Bs b (h .1) e
+
+deep-within : (nin : ℕ) (P : Program) → Scoped P → (d b : ℕ) (ws : List Role) → nth 7 (map portsOf (P .blocks)) b ≡ ok ws → Deeper ws (deep nin P d b)
+unfolding deep
+deep-within nin P scoped zero b ws e = record { may = no {n = 14} (omega arith) (omega arith); does = λ go e. absurd (no-ok e) }
+deep-within nin P scoped (suc d) b ws e =
+    let (B, eB, ports, body) = nth-both (map portsOf (P .blocks)) (P .blocks) b (scoped .blocks) e in
+    record {
+      may = is-there _ eB fine;
+      does = λ go eg. inv _ _ eg λ B′ eB′ f.
+          subst (Acts ws) (ok-inj f)
+          (subst (λ B. Acts ws (enter nin (deep nin P d) B)) (ok-inj (sym eB ∙ eB′))
+          (subst (λ ws. Acts ws (enter nin (deep nin P d) B)) ports (enter-within nin (deep nin P d) (map portsOf (P .blocks)) (deep-within nin P scoped d) B body)));
+    }
+
+nth-there : (sigs : List (List Role)) (Bs : List (Block ℕ Callee)) (n b : ℕ) → BlocksOk sigs Bs → b < length Bs → (B : Block ℕ Callee) × (nth n Bs b ≡ ok B) × StmtsOk sigs (namesOf B) (B .body)
+unfolding nth BlocksOk
+nth-there sigs [] n b h l = absurd (omega arith)
+nth-there sigs (B ∷ Bs) n zero h l = (B, refl, h .0)
+nth-there sigs (B ∷ Bs) n (suc b) h l = nth-there sigs Bs n b (h .1) (omega arith)
+
+pub unfold-within : (P : Program) → Scoped P → Within 10 18 (unfoldMain P)
+unfolding unfoldMain
+unfold-within P scoped =
+    let (M, eM, body) = nth-there (map portsOf (P .blocks)) (P .blocks) 9 (P .main) (scoped .blocks) (scoped .main) in
+    is-there _ eM
+    (within-next (declare-within _ (M .inputs) _ _) λ i ei. within-next (declare-within _ (M .outputs) _ _) λ o eo. within-next (declare-within _ (M .locals) _ _) λ l el.
+    within-then (unfolds-within _ _ (map portsOf (P .blocks)) (deep-within _ P scoped 15) (namesOf M) (M .body) body _ _ _
+    (subst (Suits (l .0)) (named-main M)
+    (declare-suits _ (M .locals) _ _ _ (declare-suits _ (M .outputs) _ _ _ (declare-suits _ (M .inputs) _ _ (map (λ n. a-generic) (M .generics)) (suits-blanks (M .generics)) ei) eo) el))) λ s. fine)
+
+-- ---- flattening
+
+-- 3 to 5 in reading, 6 to 9 in names
+pub program-within : (text : List ℕ) → Within 3 9 (program text)
+unfolding program
+program-within text = within-then (wider (omega arith) (omega arith) (grammar-within text)) λ S. wider (omega arith) (omega arith) (names-within (length text) S)
+
+-- then 10 to 18
+pub text-within : (text : List ℕ) (P : Program) → program text ≡ ok P → Within 10 18 (unfoldMain P)
+unfolding program
+text-within text P e = inv _ _ e λ S _ eP. unfold-within P (names-scoped (length text) S P eP)
+
+pub flattened-within : (text : List ℕ) (work net : ℕ) → Within 1 18 (flattened text work net)
+unfolding flattened
+flattened-within text work net =
+    within-then (within-need _ 1 (omega arith) (omega arith)) λ _. within-then (within-need _ 2 (omega arith) (omega arith)) λ _.
+    within-next (wider (omega arith) (omega arith) (program-within text)) λ P e. wider (omega arith) (omega arith) (text-within text P e)
+
+done-is : (net : ℕ) (o : Out Unfolded) → Within 1 18 o → answer net o .number ≡ 0 → (u : Unfolded) × (o ≡ ok u)
+unfolding answer
+done-is net (ok u) (fine) e = (u, refl)
+done-is net (refuse n p) (no a b) e = absurd (omega arith)
+
+-- the answer 0 is a success
+pub done : (text : List ℕ) (work net : ℕ) → flatten text work net .number ≡ 0 → (u : Unfolded) × (flattened text work net ≡ ok u)
+unfolding flatten
+done text work net e = done-is net (flattened text work net) (flattened-within text work net) e
