@@ -73,6 +73,7 @@ module _ {A : Type 0} (C : Cells A) where
   singles [] = true
   singles (c ∷ cs) = eqb (C .size c) 1 && singles cs
 
-  -- the ends of a primitive: as many single cells as it has inputs, and one for its output. A resolved program gives no other (8)
+  -- the ends of a primitive: as many single cells as it has inputs, and one for its output. A resolved
+  -- program gives no other (8); the meaning asks the same
   unfoldable pub ends : ℕ → List A → Out (Unit {0})
   ends k cs = need (ltb k (length table) && eqb (length cs) (suc (inputsOf k)) && singles cs) 8

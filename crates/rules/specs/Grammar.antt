@@ -89,7 +89,7 @@ module _ (s : List ℕ) where
 
   -- ---- blocks, up to BEGIN
 
-  -- "a 49th name declared in a block"
+  -- a declared name, where k stand before it in its block: "49th name declared in a block"
   unfoldable pub declared : ℕ → Reader Name
   declared k = do
     n ← aName s
@@ -174,6 +174,10 @@ module _ (s : List ℕ) where
     b ← inside
     give (loop p i (r .0) (r .1) b end)
 
+  -- "Statements are divided by ; with none before END; there may be none." With END
+  abbrev pub statementsOf : Reader Body → Reader Body
+  statementsOf stmt = any s end before (λ _ _. stmt) ";" "END" 0
+
   -- what begins a statement: a name, or GENERATE, given by its place
   unfoldable pub stated : Word → (ℕ → Reader Body) → Out (Body × ℕ)
   stated (Bad p) loops = refuse 3 p
@@ -184,13 +188,13 @@ module _ (s : List ℕ) where
   -- a statement, where so many more loops may stand inside one another: a 9th is refused
   unfoldable pub statement : ℕ → Reader Body
   statement zero at = stated (wordAt s at) (λ p. refused 5 p)
-  statement (suc left) at = stated (wordAt s at) (looping (any s end before (λ _ _. statement left) ";" "END" 0))
+  statement (suc left) at = stated (wordAt s at) (looping (statementsOf (statement left)))
 
-  -- "Statements are divided by ; with none before END; there may be none."
   unfoldable pub body : Reader Body
-  body = any s end before (λ _ _. statement 8) ";" "END" 0
+  body = statementsOf (statement 8)
 
-  -- "A block: BLOCK, its name, generics, inputs, outputs, then declarations, BEGIN, statements, END and ;", after the k-th BLOCK at p
+  -- "A block: BLOCK, its name, generics, inputs, outputs, then declarations, BEGIN, statements, END and ;", after BLOCK at p, where k
+  -- blocks stand before it: a 65th is refused
   unfoldable pub aBlock : ℕ → ℕ → Reader (Block Name Name)
   aBlock k p = pick (ltb k 64)
       (do
@@ -212,5 +216,6 @@ module _ (s : List ℕ) where
     r ← rest s [] _∷_ aBlock "BLOCK" "" 1
     give (b ∷ r)
 
+  -- the whole text, from its front
   unfoldable pub grammar : Out Spelled
   grammar = _and-then_ (blocks 0) (λ r. ok (r .0))

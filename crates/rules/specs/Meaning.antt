@@ -78,7 +78,7 @@ BlockAllows blocks B vs ports =
     When (tie Bits (generics vs) (B .inputs ++ B .outputs) ports) λ τ.
     Some (generics vs) (B .locals) (blanks Bits (B .generics) ++ τ) (λ β. Holds blocks (B .body) (generics vs) β)
 
--- the same for a block by its number, by calls at most d deep
+-- the same for a block by its number, by calls at most d deep; what calls itself for ever allows nothing
 unfoldable pub AllowsAt : Program → ℕ → ℕ → Allowed
 AllowsAt P zero b vs ports = ⊥
 AllowsAt P (suc d) b vs ports = When (nth 7 (P .blocks) b) λ B. BlockAllows (AllowsAt P d) B vs ports

@@ -1,14 +1,14 @@
 -- 01, refusals 6 to 8: what a name means inside its block, in expressions and as an argument. Assumes nothing.
 use Prim.Native.Nat.{ℕ}
 use mathlib.Core.Bool.{Bool, true, false, not, _||_}
-use mathlib.Core.List.{List, [], _∷_, map}
+use mathlib.Core.List.{List, [], _∷_, _++_, map}
 use lib.ListN.{length, getD}
-use lib.Dec.{ltb, eqb}
-use Rattle.rules.specs.Text.{pick, indexOf}
-use Rattle.rules.specs.Outcome.{Out, ok, refuse, _>>=_, at, need}
+use lib.Dec.{eqb}
+use Rattle.rules.specs.Text.{pick, indexOf, isIn}
+use Rattle.rules.specs.Outcome.{Out, ok, refuse, _>>=_, needAt}
 use Rattle.rules.specs.Syntax.{Name, Exp, number, name, neg, group, both, Sort, wire, vector, num, Arg, whole, part, Decl}
 
--- what a declared name stands for
+-- what a declared name is: a generic, a WIRE, a VECTOR or a NUM
 pub data Role : Type 0 where
   a-generic : Role
   a-wire : Role
@@ -38,7 +38,7 @@ roleOf wire = a-wire
 roleOf (vector a b) = a-vector
 roleOf num = an-index
 
--- a block's declared names, in text order: how each is spelled, and its role
+-- a block's declared names, in text order: generics, then ports and VARs; how each is spelled, and its role
 pub record Entry : Type 0 where
   pub letters : List ℕ
   pub role : Role
@@ -52,13 +52,16 @@ spellings E = map (λ e. e .letters) E
 abbrev pub generic : Name → Entry
 generic n = record { letters = n .letters; role = a-generic }
 
-abbrev pub declared : {N : Type 0} → Decl N → Entry
+abbrev pub declared : Decl Name → Entry
 declared d = record { letters = d .name .letters; role = roleOf (d .sort) }
+
+abbrev pub scopeOf : List Name → List (Decl Name) → Scope
+scopeOf ns ds = map generic ns ++ map declared ds
 
 -- "of two like names the first counts": the number of the declaration that a name means, or 7
 unfoldable pub find : Scope → Name → Out ℕ
 find E n = do
-  _ ← at (n .place) (need (ltb (indexOf (n .letters) (spellings E)) (length E)) 7)
+  _ ← needAt (n .place) (isIn (n .letters) (spellings E)) 7
   ok (indexOf (n .letters) (spellings E))
 
 abbrev pub roleAt : Scope → ℕ → Role
@@ -66,7 +69,7 @@ roleAt E k = getD E k (record { letters = []; role = a-generic }) .role
 
 -- 6, "a name declared twice in one block"
 unfoldable pub once : Scope → Name → Out (Unit {0})
-once E n = at (n .place) (need (not (ltb (indexOf (n .letters) (spellings E)) (length E))) 6)
+once E n = needAt (n .place) (not (isIn (n .letters) (spellings E))) 6
 
 -- ---- expressions: "A name stands for a generic or for the index of a loop around it"
 
@@ -85,7 +88,7 @@ unfoldable pub expression : Scope → List ℕ → Exp Name → Out (Exp ℕ)
 expression E L (number v) = ok (number v)
 expression E L (name n) = do
   k ← find E n
-  _ ← at (n .place) (need (stands L k (roleAt E k)) 7)
+  _ ← needAt (n .place) (stands L k (roleAt E k)) 7
   ok (name k)
 expression E L (neg e) = do
   e ← expression E L e
@@ -110,13 +113,13 @@ expressions E L (e ∷ es) = do
 unfoldable pub argument : Scope → List ℕ → Role → Arg Name → Out (Arg ℕ)
 argument E L wanted (whole n) = do
   k ← find E n
-  _ ← at (n .place) (need (isWire (roleAt E k) || isVector (roleAt E k)) 7)
-  _ ← at (n .place) (need (pick (isWire wanted) (isWire (roleAt E k)) (isVector (roleAt E k))) 8)
+  _ ← needAt (n .place) (isWire (roleAt E k) || isVector (roleAt E k)) 7
+  _ ← needAt (n .place) (pick (isWire wanted) (isWire (roleAt E k)) (isVector (roleAt E k))) 8
   ok (whole k)
 argument E L wanted (part n e) = do
   k ← find E n
-  _ ← at (n .place) (need (isVector (roleAt E k)) 7)
-  _ ← at (n .place) (need (isWire wanted) 8)
+  _ ← needAt (n .place) (isVector (roleAt E k)) 7
+  _ ← needAt (n .place) (isWire wanted) 8
   e ← expression E L e
   ok (part k e)
 

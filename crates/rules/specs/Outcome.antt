@@ -18,10 +18,13 @@ unfoldable pub at : {A : Type 0} → ℕ → Out A → Out A
 at p (ok a) = ok a
 at p (refuse n q) = refuse n p
 
--- the test holds, or else refusal n; `at` gives its place
+-- the test holds, or else refusal n; `at` gives its place, and 1 and 2 keep the place 0
 unfoldable pub need : Bool → ℕ → Out (Unit {0})
 need true n = ok tt
 need false n = refuse n 0
+
+abbrev pub needAt : ℕ → Bool → ℕ → Out (Unit {0})
+needAt p c n = at p (need c n)
 
 -- the k-th of a list, counted from 0, or else refusal n
 unfoldable pub nth : {A : Type 0} → ℕ → List A → ℕ → Out A

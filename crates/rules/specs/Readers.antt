@@ -69,10 +69,11 @@ module _ (s : List ℕ) where
   unfoldable pub ifNext : {A : Type 0} → String → Reader A → Reader A → Reader A
   ifNext k then else at = pick (isNext k (wordAt s at)) (λ _. then (after (wordAt s at))) else at
 
-  -- ---- lists. An item is told how many stand before it, and the place of the mark before it
+  -- ---- lists. An item is told how many stand before it, and the place of the mark before it (0 for the first of `some`)
 
-  -- after k items: `sep` and another item, again and again, then `close`. The first number bounds how often: the text's length is
-  -- enough (Laws.Enough)
+  -- after k items: `sep` and another item, again and again, then `close`; `none` and `more` build the list. VARs have the mark VAR
+  -- before each, and the end of the text closes the blocks. The first number bounds how often: the text's length is enough
+  -- (Laws.Enough), and 4 at 0 is never given
   unfoldable pub restUpTo : {A B : Type 0} → B → (A → B → B) → (ℕ → ℕ → Reader A) → String → String → ℕ → ℕ → Reader B
   restUpTo none more item sep close zero k = refused 4 0
   restUpTo none more item sep close (suc bound) k = λ at. marked (wordAt s at) λ b p.

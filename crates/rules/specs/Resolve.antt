@@ -4,12 +4,12 @@ use Prim.Native.Nat.{ℕ}
 use mathlib.Core.Bool.{Bool, true, false, not, _&&_}
 use mathlib.Core.List.{List, [], _∷_, _++_, map}
 use lib.ListN.{length, replicate}
-use lib.Dec.{ltb, eqb}
-use Rattle.rules.specs.Text.{bytes, pick, indexOf}
-use Rattle.rules.specs.Outcome.{Out, ok, refuse, _>>=_, at, need, nth}
+use lib.Dec.{eqb}
+use Rattle.rules.specs.Text.{bytes, pick, indexOf, isIn}
+use Rattle.rules.specs.Outcome.{Out, ok, refuse, _>>=_, at, needAt, nth}
 use Rattle.rules.specs.Primitives.{inputsOf, primitiveNames}
 use Rattle.rules.specs.Syntax.{Name, Sort, wire, vector, num, Stmts, end, call, loop, Decl, Block, Spelled, Callee, gate, block, Program}
-use Rattle.rules.specs.Names.{Role, a-wire, isIndex, roleOf, Scope, generic, declared, find, roleAt, once, expression, expressions, arguments}
+use Rattle.rules.specs.Names.{Role, a-wire, isIndex, roleOf, Scope, generic, declared, scopeOf, find, roleAt, once, expression, expressions, arguments}
 
 -- ---- calls
 
@@ -37,7 +37,7 @@ unfoldable pub called : Spelled → Name → Out Wants
 called Bs n =
     let k = indexOf (n .letters) primitiveNames in
     let b = indexOf (n .letters) (blockNames Bs) in
-    pick (ltb k (length primitiveNames)) (ok (wantedByGate k)) (at (n .place) do
+    pick (isIn (n .letters) primitiveNames) (ok (wantedByGate k)) (at (n .place) do
       B ← nth 7 Bs b
       ok (wantedBy B b))
 
@@ -46,7 +46,7 @@ unfoldable pub statements : Spelled → Scope → List ℕ → Stmts Name Name �
 statements Bs E L end = ok end
 statements Bs E L (call p n gs ins outs rest) = do
   w ← called Bs n
-  _ ← at (n .place) (need (eqb (length gs) (w .generics) && eqb (length ins) (length (w .inputs)) && eqb (length outs) (length (w .outputs))) 8)
+  _ ← needAt (n .place) (eqb (length gs) (w .generics) && eqb (length ins) (length (w .inputs)) && eqb (length outs) (length (w .outputs))) 8
   gs ← expressions E L gs
   ins ← arguments E L (w .inputs) ins
   outs ← arguments E L (w .outputs) outs
@@ -54,7 +54,7 @@ statements Bs E L (call p n gs ins outs rest) = do
   ok (call p (w .callee) gs ins outs rest)
 statements Bs E L (loop p i a b body rest) = do
   k ← find E i
-  _ ← at (i .place) (need (isIndex (roleAt E k)) 7)
+  _ ← needAt (i .place) (isIndex (roleAt E k)) 7
   a ← expression E L a
   b ← expression E L b
   body ← statements Bs E (k ∷ L) body
@@ -63,8 +63,9 @@ statements Bs E L (loop p i a b body rest) = do
 
 -- ---- blocks
 
-unfoldable pub generics : Scope → List Name → Out Scope
-generics E [] = ok E
+-- 6 among the generics, E before them
+unfoldable pub generics : Scope → List Name → Out (Unit {0})
+generics E [] = ok tt
 generics E (n ∷ ns) = do
   _ ← once E n
   generics (E ++ (generic n ∷ [])) ns
@@ -78,7 +79,7 @@ sort E (vector a b) = do
   ok (vector a b)
 sort E num = ok num
 
--- declared names after those of E
+-- 6 at each declared name, E before it, then 7 in its type
 unfoldable pub declarations : Scope → List (Decl Name) → Out (List (Decl ℕ))
 declarations E [] = ok []
 declarations E (d ∷ ds) = do
@@ -90,12 +91,12 @@ declarations E (d ∷ ds) = do
 -- "a block name twice, or a block named as a primitive"; `earlier` are the spellings of the blocks before
 unfoldable pub resolveBlock : Spelled → List (List ℕ) → Block Name Name → Out (Block ℕ Callee)
 resolveBlock Bs earlier B = do
-  _ ← at (B .name .place) (need (not (ltb (indexOf (B .name .letters) (primitiveNames ++ earlier)) (length (primitiveNames ++ earlier)))) 6)
-  G ← generics [] (B .generics)
-  ins ← declarations G (B .inputs)
-  outs ← declarations (G ++ map declared (B .inputs)) (B .outputs)
-  vs ← declarations (G ++ map declared (B .inputs ++ B .outputs)) (B .locals)
-  b ← statements Bs (G ++ map declared (B .inputs ++ B .outputs ++ B .locals)) [] (B .body)
+  _ ← needAt (B .name .place) (not (isIn (B .name .letters) (primitiveNames ++ earlier))) 6
+  _ ← generics [] (B .generics)
+  ins ← declarations (scopeOf (B .generics) []) (B .inputs)
+  outs ← declarations (scopeOf (B .generics) (B .inputs)) (B .outputs)
+  vs ← declarations (scopeOf (B .generics) (B .inputs ++ B .outputs)) (B .locals)
+  b ← statements Bs (scopeOf (B .generics) (B .inputs ++ B .outputs ++ B .locals)) [] (B .body)
   ok (record { name = B .name; generics = B .generics; inputs = ins; outputs = outs; locals = vs; body = b })
 
 unfoldable pub resolveBlocks : Spelled → List (List ℕ) → Spelled → Out (List (Block ℕ Callee))
@@ -110,7 +111,7 @@ unfoldable pub mainOf : ℕ → Spelled → Out ℕ
 mainOf len Bs =
     let m = indexOf (bytes "main") (blockNames Bs) in do
       M ← at len (nth 9 Bs m)
-      _ ← at (M .name .place) (need (eqb (length (M .generics)) 0) 9)
+      _ ← needAt (M .name .place) (eqb (length (M .generics)) 0) 9
       ok m
 
 -- a text of this length, resolved

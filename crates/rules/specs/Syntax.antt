@@ -13,7 +13,8 @@ pub data Op : Type 0 where
   minus : Op
   times : Op
 
--- "a factor is a number, a name, a minus before a factor, or an expression in brackets"; terms and expressions join two
+-- "a factor is a number, a name, a minus before a factor, or an expression in brackets"; terms and expressions join two.
+-- A bracket has no value of its own; it is kept as it was written
 pub data Exp (N : Type 0) : Type 0 where
   number : ℕ → Exp N
   name : N → Exp N

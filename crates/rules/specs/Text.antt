@@ -4,14 +4,15 @@ use Prim.Native.Char.{code}
 use Prim.Native.String.{String, [] as empty, _∷_ as _before_}
 use mathlib.Core.Bool.{Bool, true, false, _&&_}
 use mathlib.Core.List.{List, [], _∷_}
-use lib.Dec.{eqb}
+use lib.ListN.{length}
+use lib.Dec.{ltb, eqb}
 
 -- a quoted text as bytes
 abbrev pub bytes : String → List ℕ
 bytes empty = []
 bytes (c before t) = code c ∷ bytes t
 
--- the first if the test holds, else the second
+-- the first if the test holds, else the second; shut, unlike the library's `cond`, so that a law can name what is picked
 unfoldable pub pick {ℓ} : {A : Type ℓ} → Bool → A → A → A
 pick true a b = a
 pick false a b = b
@@ -27,3 +28,6 @@ same (a ∷ l) (b ∷ r) = eqb a b && same l r
 unfoldable pub indexOf : List ℕ → List (List ℕ) → ℕ
 indexOf w [] = 0
 indexOf w (v ∷ vs) = pick (same w v) 0 (suc (indexOf w vs))
+
+abbrev pub isIn : List ℕ → List (List ℕ) → Bool
+isIn w vs = ltb (indexOf w vs) (length vs)

@@ -55,29 +55,9 @@ unfoldable pub driven : List Gate → ℕ → Bool
 driven [] w = false
 driven (g ∷ gs) w = eqb (g .out) w || driven gs w
 
--- "gate 1,025" (17); "a gate's output already driven, or a main input" (18): main's inputs are the wires below `nin`
-unfoldable pub emit : ℕ → Gate → State → Out State
-emit nin g s = do
-  _ ← need (ltb (length (s .gates)) 1024) 17
-  _ ← need (not (ltb (g .out) nin || driven (s .gates) (g .out))) 18
-  ok (record { next = s .next; steps = s .steps; gates = s .gates ++ (g ∷ []) })
-
--- ---- statements
-
 -- what a call does at its place, with these generics and these wires
 abbrev pub Act : Type 0
 Act = ℕ → List ℤ → List Range → State → Out State
-
--- "A primitive call adds one gate."
-unfoldable pub addGate : ℕ → ℕ → Act
-addGate nin k p vs rs s = do
-  _ ← at p (ends Wires k rs)
-  at p (emit nin (gateOn k (map (λ r. r .base) rs)) s)
-
--- what a call does, where blocks do what `deeper` says, or refuse
-unfoldable pub act : ℕ → (ℕ → Out Act) → Callee → Out Act
-act nin deeper (gate k) = ok (addGate nin k)
-act nin deeper (block b) = deeper b
 
 -- so many rounds of the loop at p, from index v on: 15 at each
 unfoldable pub turns : ℕ → (ℤ → State → Out State) → ℤ → ℕ → State → Out State
@@ -87,38 +67,58 @@ turns p round v (suc n) s = do
   s ← round v s
   turns p round (sucℤ v) n s
 
--- "A call: 15; for a block 14; generics; every subscript left to right"; "A loop: 15, bounds, then 15 at each round"
-unfoldable pub unfolds : ℕ → (ℕ → Out Act) → Stmts ℕ Callee → Env → Frame Range → State → Out State
-unfolds nin deeper end ρ σ s = ok s
-unfolds nin deeper (call p c gs ins outs rest) ρ σ s = do
-  s ← at p (tick s)
-  go ← at p (act nin deeper c)
-  vs ← at p (evals ρ gs)
-  rs ← at p (resolves Wires ρ σ (ins ++ outs))
-  s ← go p vs rs s
-  unfolds nin deeper rest ρ σ s
-unfolds nin deeper (loop p i a b body rest) ρ σ s = do
-  s ← at p (tick s)
-  x ← at p (eval ρ a)
-  y ← at p (eval ρ b)
-  s ← turns p (λ v t. unfolds nin deeper body (bound ρ i v) σ t) x (rounds (y -ℤ x)) s
-  unfolds nin deeper rest ρ σ s
+-- ---- statements and blocks, where main's inputs are the wires below nin
 
--- ---- blocks
+module _ (nin : ℕ) where
+  -- "gate 1,025" (17); "a gate's output already driven, or a main input" (18)
+  unfoldable pub emit : Gate → State → Out State
+  emit g s = do
+    _ ← need (ltb (length (s .gates)) 1024) 17
+    _ ← need (not (ltb (g .out) nin || driven (s .gates) (g .out))) 18
+    ok (record { next = s .next; steps = s .steps; gates = s .gates ++ (g ∷ []) })
 
--- "A call of a block .. ties each port to the wires given, numbers that block's locals afresh, and unfolds its body"
-unfoldable pub enter : ℕ → (ℕ → Out Act) → Block ℕ Callee → Act
-enter nin deeper B p vs rs s = do
-  τ ← at p (tie Wires (generics vs) (B .inputs ++ B .outputs) rs)
-  r ← at p (declare (generics vs) (B .locals) (blanks Wires (B .generics) ++ τ) s)
-  unfolds nin deeper (B .body) (generics vs) (r .0) (r .1)
+  -- "A primitive call adds one gate."
+  unfoldable pub addGate : ℕ → Act
+  addGate k p vs rs s = do
+    _ ← at p (ends Wires k rs)
+    at p (emit (gateOn k (map (λ r. r .base) rs)) s)
 
--- what a call of block b does, where bodies may lie so many deeper: none is "a body at depth 17" (14)
-unfoldable pub deep : ℕ → Program → ℕ → ℕ → Out Act
-deep nin P zero b = refuse 14 0
-deep nin P (suc d) b = do
-  B ← nth 7 (P .blocks) b
-  ok (enter nin (deep nin P d) B)
+  -- what a call does: a block does what `deeper` says, or is refused with 14, before anything of the call is looked at
+  unfoldable pub act : (ℕ → Out Act) → Callee → Out Act
+  act deeper (gate k) = ok (addGate k)
+  act deeper (block b) = deeper b
+
+  -- "A call: 15; for a block 14" (act); "generics; every subscript left to right, 10 before 12; then for a block each port's bounds (10, 11)
+  -- and 13" (tie), "then its locals" (declare); "for a primitive 17, then 18" (emit). "A loop: 15, bounds, then 15 at each round" (turns)
+  unfoldable pub unfolds : (ℕ → Out Act) → Stmts ℕ Callee → Env → Frame Range → State → Out State
+  unfolds deeper end ρ σ s = ok s
+  unfolds deeper (call p c gs ins outs rest) ρ σ s = do
+    s ← at p (tick s)
+    go ← at p (act deeper c)
+    vs ← at p (evals ρ gs)
+    rs ← at p (resolves Wires ρ σ (ins ++ outs))
+    s ← go p vs rs s
+    unfolds deeper rest ρ σ s
+  unfolds deeper (loop p i a b body rest) ρ σ s = do
+    s ← at p (tick s)
+    x ← at p (eval ρ a)
+    y ← at p (eval ρ b)
+    s ← turns p (λ v t. unfolds deeper body (bound ρ i v) σ t) x (rounds (y -ℤ x)) s
+    unfolds deeper rest ρ σ s
+
+  -- "A call of a block .. ties each port to the wires given, numbers that block's locals afresh, and unfolds its body"
+  unfoldable pub enter : (ℕ → Out Act) → Block ℕ Callee → Act
+  enter deeper B p vs rs s = do
+    τ ← at p (tie Wires (generics vs) (B .inputs ++ B .outputs) rs)
+    r ← at p (declare (generics vs) (B .locals) (blanks Wires (B .generics) ++ τ) s)
+    unfolds deeper (B .body) (generics vs) (r .0) (r .1)
+
+  -- what a call of block b does, where bodies may lie so many deeper: none is "a body at depth 17" (14)
+  unfoldable pub deep : Program → ℕ → ℕ → Out Act
+  deep P zero b = refuse 14 0
+  deep P (suc d) b = do
+    B ← nth 7 (P .blocks) b
+    ok (enter (deep P d) B)
 
 -- a netlist's words, and the steps
 pub record Unfolded : Type 0 where

@@ -6,7 +6,7 @@ use mathlib.Core.List.{List, [], _∷_, map}
 use lib.ListN.{length, getD, take, drop}
 use lib.Dec.{ltb, leb, eqb}
 use lib.Text.{eqt}
-use Rattle.rules.specs.Text.{bytes, pick, indexOf}
+use Rattle.rules.specs.Text.{bytes, pick, indexOf, isIn}
 use Rattle.rules.specs.declared.Word.{Word}
 use Rattle.rules.specs.declared.Word.the-variants.{Bad, Name, Number, Mark}
 
@@ -14,6 +14,7 @@ use Rattle.rules.specs.declared.Word.the-variants.{Bad, Name, Number, Ma
 abbrev pub isSeparator : ℕ → Bool
 isSeparator b = eqb b 32 || eqb b 9 || eqb b 13 || eqb b 10
 
+-- letters and digits are those of ASCII
 abbrev pub isDigit : ℕ → Bool
 isDigit b = leb 48 b && leb b 57
 
@@ -28,7 +29,7 @@ inWord b = isLetter b || isDigit b || eqb b 95
 abbrev pub isMark : ℕ → Bool
 isMark b = leb 40 b && leb b 45 || eqb b 58 || eqb b 59 || eqb b 61 || eqb b 91 || eqb b 93
 
--- "Reserved": numbered from 1
+-- "Reserved": numbered from 1, so that no number is a mark's byte, and 0 is left for the end
 abbrev pub reserved : List String
 reserved =
     "BLOCK" ∷ "VAR" ∷ "BEGIN" ∷ "END" ∷ "GENERATE" ∷ "FOR" ∷ "IF" ∷ "THEN" ∷ "WIRE" ∷ "VECTOR" ∷ "OF" ∷ "NUM" ∷ "BESIDE" ∷ "BELOW" ∷ []
@@ -50,7 +51,7 @@ valueOf v (d ∷ r) = valueOf (v * 10 + (d - 48)) r
 -- a word from p to q by its letters: "A name is a letter and up to 15 more"; "A number is 1 to 6 digits"
 unfoldable pub spelled : ℕ → ℕ → List ℕ → Word
 spelled p q w =
-    pick (ltb (indexOf w (map bytes reserved)) (length reserved)) (Mark (suc (indexOf w (map bytes reserved))) p q)
+    pick (isIn w (map bytes reserved)) (Mark (suc (indexOf w (map bytes reserved))) p q)
     (pick (all isDigit w && leb (length w) 6) (Number p q (valueOf 0 w))
     (pick (isLetter (getD w 0 0) && leb (length w) 16) (Name p q) (Bad p)))
 

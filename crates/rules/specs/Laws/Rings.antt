@@ -16,6 +16,7 @@ ring = 0 ∷ 0 ∷ 1 ∷ 1 ∷ 1 ∷ 0 ∷ 65535 ∷ 65535 ∷ 0 ∷ []
 
 mutual
   unfolding primitive
+
   never : {i : ℕ} {b : Signal} → Known ring [] i b → ⊥
   never (given h e) = omega arith
   never (made zero h o k e) = never-all k 0 [] refl

@@ -13,7 +13,7 @@ use Rattle.rules.specs.Text.{pick, indexOf}
 use Rattle.rules.specs.Outcome.{Out, ok, refuse, _>>=_, at, need, nth}
 use Rattle.rules.specs.Primitives.{table, inputsOf, primitiveNames}
 use Rattle.rules.specs.Syntax.{Name, Exp, number, name, neg, group, both, Sort, wire, vector, num, Arg, whole, part, Stmts, end, call, loop, Decl, Block, Spelled, Callee, gate, block, Program}
-use Rattle.rules.specs.Names.{Role, a-generic, a-wire, a-vector, an-index, isWire, isVector, isIndex, roleOf, Entry, Scope, spellings, generic, declared, find, roleAt, once, expression, expressions, argument, arguments}
+use Rattle.rules.specs.Names.{Role, a-generic, a-wire, a-vector, an-index, isWire, isVector, isIndex, roleOf, Entry, Scope, spellings, generic, declared, scopeOf, find, roleAt, once, expression, expressions, argument, arguments}
 use Rattle.rules.specs.Resolve.{Wants, wantedBy, wantedByGate, called, statements, generics, sort, declarations, resolveBlock, resolveBlocks, mainOf, names}
 use Rattle.rules.specs.Laws.Outcomes.{no-ok, ok-inj, inv, inv-at, at-ok, need-yes, both-yes}
 
@@ -54,7 +54,7 @@ StmtsOk sigs E (loop p i a b body rest) = StmtsOk sigs E body × StmtsOk sigs E 
 
 found : (E : Scope) (n : Name) {k : ℕ} → find E n ≡ ok k → k < length E
 unfolding find
-found E n e = inv-at _ _ _ e λ _ t e₁. let h = ltb→lt _ _ (need-yes _ _ t) in subst (λ k. k < length E) (ok-inj e₁) h
+found E n e = inv-at _ _ _ e λ _ t e₁. subst (λ k. k < length E) (ok-inj e₁) (subst (λ l. indexOf (n .letters) (spellings E) < l) (length-map E (λ e. e .letters)) (ltb→lt _ _ (need-yes _ _ t)))
 
 role-at : (E : Scope) (k : ℕ) → getD (map (λ e. e .role) E) k a-generic ≡ roleAt E k
 role-at [] k = refl
@@ -132,8 +132,8 @@ unfolding called
 wanted-ok Bs n {w} e = ⊎-elim
     (λ h. subst (λ w. Wanted (sigsOf Bs) (w .callee) (w .inputs ++ w .outputs)) (ok-inj (h .1)) (by-primitive _ (ltb→lt _ _ (h .0))))
     (λ h. inv _ _ (at-ok (n .place) _ h) λ B eB e₁. subst (λ w. Wanted (sigsOf Bs) (w .callee) (w .inputs ++ w .outputs)) (ok-inj e₁)
-        (subst (λ ws. Wanted (sigsOf Bs) (block (indexOf (n .letters) (map (λ B. B .name .letters) Bs))) ws) (map-both (λ d. roleOf (d .sort)) (B .inputs) (B .outputs))
-        (by-block (nth-map portsOf 7 Bs _ eB))))
+    (subst (λ ws. Wanted (sigsOf Bs) (block (indexOf (n .letters) (map (λ B. B .name .letters) Bs))) ws) (map-both (λ d. roleOf (d .sort)) (B .inputs) (B .outputs))
+    (by-block (nth-map portsOf 7 Bs _ eB))))
     (pick-or _ e)
   where
     by-primitive : (k : ℕ) → k < 10 → Wanted (sigsOf Bs) (gate k) (replicate (inputsOf k) a-wire ++ (a-wire ∷ []))
@@ -161,11 +161,6 @@ stmts-ok Bs E L (loop p i a b body rest) e =
 
 -- ---- blocks
 
-generics-are : (E : Scope) (ns : List Name) {G : Scope} → generics E ns ≡ ok G → G ≡ E ++ map generic ns
-unfolding generics
-generics-are E [] e = sym (ok-inj e) ∙ sym (append-nil E)
-generics-are E (n ∷ ns) e = inv _ _ e λ _ _ e₁. generics-are _ ns e₁ ∙ append-assoc E (generic n ∷ []) (map generic ns)
-
 sort-role : (E : Scope) (t : Sort Name) {t′ : Sort ℕ} → sort E t ≡ ok t′ → roleOf t′ ≡ roleOf t
 unfolding sort roleOf
 sort-role E wire e = rw (← (ok-inj e)) refl
@@ -181,7 +176,7 @@ declarations-roles E (d ∷ ds) e =
     inv _ _ e₂ λ r er e₃.
     rw (← (ok-inj e₃)) (ap₂ _∷_ (sort-role E (d .sort) et) (declarations-roles _ ds er))
 
-scope-roles : (ns : List Name) (ds : List (Decl Name)) → rolesOf (map generic ns ++ map declared ds) ≡ map (λ n. a-generic) ns ++ roles ds
+scope-roles : (ns : List Name) (ds : List (Decl Name)) → rolesOf (scopeOf ns ds) ≡ map (λ n. a-generic) ns ++ roles ds
 scope-roles [] [] = refl
 scope-roles [] (d ∷ ds) = ap (λ l. roleOf (d .sort) ∷ l) (scope-roles [] ds)
 scope-roles (n ∷ ns) ds = ap (λ l. a-generic ∷ l) (scope-roles ns ds)
@@ -198,7 +193,7 @@ block-ok : (Bs : Spelled) (earlier : List (List ℕ)) (B : Block Name Name) {B�
 unfolding resolveBlock
 block-ok Bs earlier B e =
     inv-at _ _ _ e λ _ _ e₁.
-    inv _ _ e₁ λ G eG e₂.
+    inv _ _ e₁ λ _ _ e₂.
     inv _ _ e₂ λ ins ei e₃.
     inv _ _ e₃ λ outs eo e₄.
     inv _ _ e₄ λ vs ev e₅.
@@ -207,9 +202,8 @@ block-ok Bs earlier B e =
     let o = declarations-roles _ (B .outputs) eo in
     let v = declarations-roles _ (B .locals) ev in
     let two = same-two ins outs (B .inputs) (B .outputs) i o in
-    let scope : rolesOf (G ++ map declared (B .inputs ++ B .outputs ++ B .locals)) ≡ map (λ n. a-generic) (B .generics) ++ roles (ins ++ outs ++ vs) =
-    ap (λ G. rolesOf (G ++ map declared (B .inputs ++ B .outputs ++ B .locals))) (generics-are [] (B .generics) eG)
-    ∙ scope-roles (B .generics) (B .inputs ++ B .outputs ++ B .locals)
+    let scope : rolesOf (scopeOf (B .generics) (B .inputs ++ B .outputs ++ B .locals)) ≡ map (λ n. a-generic) (B .generics) ++ roles (ins ++ outs ++ vs) =
+    scope-roles (B .generics) (B .inputs ++ B .outputs ++ B .locals)
     ∙ ap (λ l. map (λ n. a-generic) (B .generics) ++ l) (sym (same-two (ins ++ outs) vs (B .inputs ++ B .outputs) (B .locals) two v)) in
     rw (← (ok-inj e₆)) (record { ports = two; body = subst (λ E. StmtsOk (sigsOf Bs) E b) scope (stmts-ok Bs _ [] (B .body) eb) })
 
