@@ -1,5 +1,6 @@
--- What a successful flattening promises, from the text on: demand 3 whole, and well-formedness. `flatten` answered 0 for a text and lent
--- buffers of these lengths; `words` is what the lent netlist then holds. Assumes nothing.
+-- What is promised over the definitions alone. Of a successful flattening, from the text on: demand 3 whole, and well-formedness.
+-- There `flatten` answered 0 for a text and lent buffers of these lengths, and `words` is what the lent netlist then holds.
+-- Assumes nothing.
 use mathlib.Core.Path.{_≡_, refl, sym, ap, _∙_, subst}
 use mathlib.Core.Logic.{_↔_}
 use Prim.Native.Nat.{ℕ, _+_, _-_, _≤_, _<_}
@@ -9,10 +10,11 @@ use mathlib.Core.List.{List, [], _∷_, _++_, map}
 use lib.ListN.{length, getD, length-map}
 use Rattle.rules.specs.Outcome.{Out, ok, _>>=_, need}
 use Rattle.rules.specs.Syntax.{Program}
-use Rattle.rules.specs.Netlist.{inputs, outputs, wires, WellFormed}
+use Rattle.rules.specs.Netlist.{inputs, outputs, wires, WellFormed, records}
 use Rattle.rules.specs.Unfold.{Unfolded, unfoldMain}
 use Rattle.rules.specs.Meaning.{Signal, dark, carried, Allows, NetAllows}
 use Rattle.rules.specs.Run.{Known, toByte, fromByte, Inputs, Shown, settled, unsettled, Shows}
+use Rattle.rules.specs.Flat.{flatText}
 use Rattle.rules.specs.Flatten.{program, flattened, zeros, answer, flatten}
 use Rattle.rules.specs.Laws.Outcomes.{ok-inj, inv}
 use Rattle.rules.specs.Laws.Carried.{carried-at, carried-length, carried-append, append-inj}
@@ -21,6 +23,12 @@ use Rattle.rules.specs.Laws.Keep.{unfolded-well}
 use Rattle.rules.specs.Laws.Runs.{sound, shown, outs, allowed, only}
 use Rattle.rules.specs.Laws.Bytes.{byte-inj, byte-not-2, byte-below}
 use Rattle.rules.specs.Laws.Late.{done}
+use Rattle.rules.specs.Laws.FlatOne.{flat-one}
+use Rattle.rules.specs.Laws.FlatSame.{flat-same}
+
+-- flat text and netlist determine each other: no two well-formed netlists have one text, and one netlist has one
+pub one-text : (u v : List ℕ) → WellFormed u → WellFormed v → (flatText u ≡ flatText v) ↔ (records u ≡ records v)
+one-text u v wu wv = (flat-one u v wu wv, flat-same u v)
 
 module _ (text : List ℕ) (work net : ℕ) (success : flatten text work net .number ≡ 0) where
   -- what the lent netlist holds, whole

@@ -15,3 +15,5 @@ pub mod Bytes
 pub mod Rings
 pub mod Scoped
 pub mod Late
+pub mod FlatOne
+pub mod FlatSame

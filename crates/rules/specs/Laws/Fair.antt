@@ -142,7 +142,7 @@ module _ (s : List ℕ) where
 
     fair-some : (k : ℕ) → FairReader (some s none more item sep close k)
     unfolding some
-    fair-some k = fair-bind (fair k 0 (omega arith)) λ a. fair-bind (fair-restUpTo (suc (length s)) (suc k)) λ r. fair-give (more a r)
+    fair-some k = fair-bind (fair k 0 (omega arith)) λ a. fair-bind (fair-restUpTo _ (suc k)) λ r. fair-give (more a r)
 
     fair-any : (k : ℕ) → FairReader (any s none more item sep close k)
     unfolding any
@@ -180,7 +180,7 @@ module _ (s : List ℕ) where
 
   pub fair-chain : (joins : ℕ → Bool) (item : Reader Expr) → FairReader item → FairReader (chain s joins item)
   unfolding chain
-  fair-chain joins item f = fair-bind f λ e. fair-chainUpTo joins item f (suc (length s)) e
+  fair-chain joins item f = fair-bind f λ e. fair-chainUpTo joins item f _ e
 
   fair-expressionOf : (f : Reader Expr) → FairReader f → FairReader (expressionOf s f)
   fair-expressionOf f h = fair-chain isSum (chain s isProduct f) (fair-chain isProduct f h)
@@ -272,10 +272,10 @@ module _ (s : List ℕ) where
   fair-aBlock k p l =
       fair-pick (ltb k 64)
       (fair-bind fair-aName λ n. fair-bind fair-generics λ gs. fair-bind (fair-ports (length gs)) λ ins. fair-bind (fair-ports (length gs + length ins)) λ outs.
-      fair-bind (fair-restUpTo [] _∷_ (local s) "VAR" "BEGIN" (λ k p l. fair-local k p) (suc (length s)) (length gs + length ins + length outs)) λ vs.
+      fair-bind (fair-restUpTo [] _∷_ (local s) "VAR" "BEGIN" (λ k p l. fair-local k p) _ (length gs + length ins + length outs)) λ vs.
       fair-bind fair-body λ b. fair-bind (fair-mark ";") λ _. fair-give _)
       (fair-no 5 p (omega arith) (omega arith) l)
 
   pub fair-blocks : FairReader (blocks s)
   unfolding blocks
-  fair-blocks = marked-then "BLOCK" λ p l. fair-bind (fair-aBlock 0 p l) λ b. fair-bind (fair-restUpTo [] _∷_ (aBlock s) "BLOCK" "" fair-aBlock (suc (length s)) 1) λ r. fair-give (b ∷ r)
+  fair-blocks = marked-then "BLOCK" λ p l. fair-bind (fair-aBlock 0 p l) λ b. fair-bind (fair-restUpTo [] _∷_ (aBlock s) "BLOCK" "" fair-aBlock _ 1) λ r. fair-give (b ∷ r)
