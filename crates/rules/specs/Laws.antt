@@ -17,3 +17,5 @@ pub mod Scoped
 pub mod Late
 pub mod FlatOne
 pub mod FlatSame
+pub mod Ways
+pub mod Shows

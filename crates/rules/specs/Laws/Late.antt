@@ -16,6 +16,7 @@ use Rattle.rules.specs.Values.{Env, ranged, eval, evals, width, Shape, s
 use Rattle.rules.specs.Frames.{Cells, Sig, Frame, offset, blanks, resolve, resolves, tie, singles, ends}
 use Rattle.rules.specs.Unfold.{Range, Wires, State, tick, declare, emit, Act, addGate, act, turns, unfolds, enter, deep, Unfolded, unfoldMain}
 use Rattle.rules.specs.Flatten.{program, flattened, answer, flatten}
+use Rattle.rules.specs.Laws.Carried.{map-append}
 use Rattle.rules.specs.Laws.Outcomes.{no-ok, ok-inj, inv, inv-at, at-ok, need-yes, yes-need}
 use Rattle.rules.specs.Laws.Within.{Within, fine, no, wider, within-then, within-next, within-at, within-need, within-nth, grammar-within, names-within}
 use Rattle.rules.specs.Laws.Scoped.{roles, portsOf, namesOf, ArgOk, ArgsOk, Wanted, by-gate, by-block, StmtsOk, BlocksOk, Scoped, names-scoped}
@@ -156,19 +157,15 @@ suits-one : (r : Role) (x : Sig Range) → (T (isWire r) → x .cells .len ≡ 1
 unfolding Suits
 suits-one r x h = (h, tt)
 
-map-both : {A B : Type 0} (f : A → B) (xs ys : List A) → map f (xs ++ ys) ≡ map f xs ++ map f ys
-map-both f [] ys = refl
-map-both f (x ∷ xs) ys = ap (λ l. f x ∷ l) (map-both f xs ys)
-
 -- a block's names are its generics, its ports and its locals
 named-all : (B : Block ℕ Callee) → (map (λ n. a-generic) (B .generics) ++ portsOf B) ++ roles (B .locals) ≡ namesOf B
 named-all B =
     append-assoc (map (λ n. a-generic) (B .generics)) (portsOf B) (roles (B .locals))
-    ∙ ap (λ l. map (λ n. a-generic) (B .generics) ++ l) (sym (map-both (λ d. roleOf (d .sort)) (B .inputs ++ B .outputs) (B .locals)))
+    ∙ ap (λ l. map (λ n. a-generic) (B .generics) ++ l) (sym (map-append (λ d. roleOf (d .sort)) (B .inputs ++ B .outputs) (B .locals)))
 
 named-main : (B : Block ℕ Callee) → ((map (λ n. a-generic) (B .generics) ++ roles (B .inputs)) ++ roles (B .outputs)) ++ roles (B .locals) ≡ namesOf B
 named-main B =
-    ap (λ l. l ++ roles (B .locals)) (append-assoc (map (λ n. a-generic) (B .generics)) (roles (B .inputs)) (roles (B .outputs)) ∙ ap (λ l. map (λ n. a-generic) (B .generics) ++ l) (sym (map-both (λ d. roleOf (d .sort)) (B .inputs) (B .outputs))))
+    ap (λ l. l ++ roles (B .locals)) (append-assoc (map (λ n. a-generic) (B .generics)) (roles (B .inputs)) (roles (B .outputs)) ∙ ap (λ l. map (λ n. a-generic) (B .generics) ++ l) (sym (map-append (λ d. roleOf (d .sort)) (B .inputs) (B .outputs))))
     ∙ named-all B
 
 tie-within : (ρ : Env) (ds : List (Decl ℕ)) (rs : List Range) → Sized (roles ds) rs → Unfolding (tie Wires ρ ds rs)

@@ -15,6 +15,7 @@ use Rattle.rules.specs.Primitives.{table, inputsOf, primitiveNames}
 use Rattle.rules.specs.Syntax.{Name, Exp, number, name, neg, group, both, Sort, wire, vector, num, Arg, whole, part, Stmts, end, call, loop, Decl, Block, Spelled, Callee, gate, block, Program}
 use Rattle.rules.specs.Names.{Role, a-generic, a-wire, a-vector, an-index, isWire, isVector, isIndex, roleOf, Entry, Scope, spellings, generic, declared, scopeOf, find, roleAt, once, expression, expressions, argument, arguments}
 use Rattle.rules.specs.Resolve.{Wants, wantedBy, wantedByGate, called, statements, generics, sort, declarations, resolveBlock, resolveBlocks, mainOf, names}
+use Rattle.rules.specs.Laws.Carried.{map-append}
 use Rattle.rules.specs.Laws.Outcomes.{no-ok, ok-inj, inv, inv-at, at-ok, need-yes, both-yes}
 
 -- ---- what a resolved statement has
@@ -111,10 +112,6 @@ nth-map f n [] k e = absurd (no-ok e)
 nth-map f n (x ∷ xs) zero e = ap ok (ap f (ok-inj e))
 nth-map f n (x ∷ xs) (suc k) e = nth-map f n xs k e
 
-map-both : {A B : Type 0} (f : A → B) (xs ys : List A) → map f (xs ++ ys) ≡ map f xs ++ map f ys
-map-both f [] ys = refl
-map-both f (x ∷ xs) ys = ap (λ l. f x ∷ l) (map-both f xs ys)
-
 snoc-wire : (n : ℕ) → replicate n a-wire ++ (a-wire ∷ []) ≡ replicate (suc n) a-wire
 snoc-wire zero = refl
 snoc-wire (suc n) = ap (λ l. a-wire ∷ l) (snoc-wire n)
@@ -132,7 +129,7 @@ unfolding called
 wanted-ok Bs n {w} e = ⊎-elim
     (λ h. subst (λ w. Wanted (sigsOf Bs) (w .callee) (w .inputs ++ w .outputs)) (ok-inj (h .1)) (by-primitive _ (ltb→lt _ _ (h .0))))
     (λ h. inv _ _ (at-ok (n .place) _ h) λ B eB e₁. subst (λ w. Wanted (sigsOf Bs) (w .callee) (w .inputs ++ w .outputs)) (ok-inj e₁)
-    (subst (λ ws. Wanted (sigsOf Bs) (block (indexOf (n .letters) (map (λ B. B .name .letters) Bs))) ws) (map-both (λ d. roleOf (d .sort)) (B .inputs) (B .outputs))
+    (subst (λ ws. Wanted (sigsOf Bs) (block (indexOf (n .letters) (map (λ B. B .name .letters) Bs))) ws) (map-append (λ d. roleOf (d .sort)) (B .inputs) (B .outputs))
     (by-block (nth-map portsOf 7 Bs _ eB))))
     (pick-or _ e)
   where
@@ -187,7 +184,7 @@ record BlockOk (sigs : List (List Role)) (B : Block Name Name) (B′ : Block ℕ
   body : StmtsOk sigs (namesOf B′) (B′ .body)
 
 same-two : (a b : List (Decl ℕ)) (x y : List (Decl Name)) → roles a ≡ roles x → roles b ≡ roles y → roles (a ++ b) ≡ roles (x ++ y)
-same-two a b x y p q = map-both (λ d. roleOf (d .sort)) a b ∙ ap₂ _++_ p q ∙ sym (map-both (λ d. roleOf (d .sort)) x y)
+same-two a b x y p q = map-append (λ d. roleOf (d .sort)) a b ∙ ap₂ _++_ p q ∙ sym (map-append (λ d. roleOf (d .sort)) x y)
 
 block-ok : (Bs : Spelled) (earlier : List (List ℕ)) (B : Block Name Name) {B′ : Block ℕ Callee} → resolveBlock Bs earlier B ≡ ok B′ → BlockOk (sigsOf Bs) B B′
 unfolding resolveBlock
