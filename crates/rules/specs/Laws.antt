@@ -19,3 +19,6 @@ pub mod FlatOne
 pub mod FlatSame
 pub mod Ways
 pub mod Shows
+pub mod Spelt
+pub mod Sized
+pub mod Sure

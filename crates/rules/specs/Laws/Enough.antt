@@ -17,7 +17,7 @@ use Rattle.rules.specs.Syntax.{both, end, before}
 use Rattle.rules.specs.Readers.{Reader, _>>=_, give, refused, marked, restUpTo, rest}
 use Rattle.rules.specs.Grammar.{Expr, joined, isSum, isProduct, opOf, chainUpTo, chain, factor, expression, declared, port, local, argument, statement, aBlock}
 use Rattle.rules.specs.Laws.Placed.{Placed, bad, named, number, mark, the-end, word-placed}
-use Rattle.rules.specs.Laws.Fair.{Fair, on, off, FairReader, fair-chain, fair-factor, fair-expression, fair-declared, fair-port, fair-local, fair-argument, fair-statement, fair-aBlock}
+use Rattle.rules.specs.Laws.Fair.{Fair, on, off, FairReader, fair-factor, fair-term, fair-expression, fair-declared, fair-port, fair-local, fair-argument, fair-statement, fair-aBlock}
 
 -- two ways to go on after a fair part that agree from where it ends
 same-then : {A B : Type 0} {len at : ℕ} {o : Out (A × ℕ)} (f g : A → Reader B) → Fair len at o → ((a : A) (n : ℕ) → at ≤ n → n ≤ len → f a n ≡ g a n)
@@ -135,7 +135,7 @@ module _ (s : List ℕ) where
   pub enough : Enough
   enough = record {
     products = λ left. chain-again s isProduct (factor s left) (fair-factor s left) (λ t. t);
-    sums = λ left. chain-again s isSum _ (fair-chain s isProduct (factor s left) (fair-factor s left)) (λ t. t);
+    sums = λ left. chain-again s isSum _ (fair-term s left) (λ t. t);
     generic-names = rest-again s [] _∷_ _ "," ")" (λ k p l. fair-declared s k) (λ e. absurd (omega (arith, e)));
     generic-values = rest-again s [] _∷_ _ "," ")" (λ k p l. fair-expression s) (λ e. absurd (omega (arith, e)));
     port-lists = rest-again s [] _∷_ _ "," "]" (λ k p l. fair-port s k p) (λ e. absurd (omega (arith, e)));
