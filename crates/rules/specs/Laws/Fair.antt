@@ -6,7 +6,7 @@ use lib.ListN.{length}
 use Rattle.rules.specs.Outcome.{Out, ok, refuse}
 use Rattle.rules.specs.Readers.{Reader}
 use Rattle.rules.specs.Grammar.{isProduct, chain, factor, expression, declared, port, local, argument, statement, aBlock, blocks}
-use Rattle.rules.specs.Laws.Sure.{Sure, on as sure-on, off as sure-off, SureReader, sure-chain, sure-factor, sure-expression, sure-declared, sure-port, sure-local, sure-argument, sure-statement, sure-aBlock, sure-blocks}
+use Rattle.rules.specs.Laws.Sure.{Sure, on as sure-on, off as sure-off, SureReader, sure-term, sure-factor, sure-expression, sure-declared, sure-port, sure-local, sure-argument, sure-statement, sure-aBlock, sure-blocks}
 
 pub data Fair (len at : ℕ) {A : Type 0} : Out (A × ℕ) → Type 0 where
   on : {a : A} {n : ℕ} → at ≤ n → n ≤ len → Fair len at (ok (a, n))
@@ -25,7 +25,7 @@ module _ (s : List ℕ) where
   fair-factor left at h = fair-of (sure-factor s left at h)
 
   pub fair-term : (left : ℕ) → FairReader (chain s isProduct (factor s left))
-  fair-term left at h = fair-of (sure-chain s isProduct (factor s left) (sure-factor s left) at h)
+  fair-term left at h = fair-of (sure-term s (factor s left) (sure-factor s left) at h)
 
   pub fair-expression : FairReader (expression s)
   fair-expression at h = fair-of (sure-expression s at h)

@@ -4,22 +4,22 @@ use mathlib.Core.Path.{_≡_, refl, sym, ap, _∙_, subst}
 use Prim.Native.Nat.{ℕ, zero, suc, _+_, _-_, _≤_, _<_}
 use Prim.Native.String.{String}
 use native.Mathlib.Omega.{arith}
-use mathlib.Core.Bool.{Bool, true, false}
+use mathlib.Core.Bool.{Bool, true, false, _||_}
 use mathlib.Core.List.{List, [], _∷_}
 use lib.ListN.{length, take, drop, length-drop}
 use lib.Seq.{length-take-le}
-use lib.Dec.{T, ltb, eqb, ltb→lt}
+use lib.Dec.{T, ltb, eqb, ltb→lt, eqb→eq}
 use Rattle.rules.specs.declared.Word.{Word}
 use Rattle.rules.specs.declared.Word.the-variants.{Bad, Name as Named, Number, Mark}
 use Rattle.rules.specs.Text.{pick}
 use Rattle.rules.specs.Outcome.{Out, ok, refuse, _>>=_ as _and-then_}
 use Rattle.rules.specs.Words.{wordAt, key}
-use Rattle.rules.specs.Syntax.{Name, Exp, name as called, number as valued, neg, group, both, Sort, wire, vector, num, Arg, whole, part, Stmts, end, call, loop, before, Decl, Block, Spelled}
+use Rattle.rules.specs.Syntax.{Name, plus, minus, times, Exp, name as called, number as valued, neg, group, both, Sort, wire, vector, num, Arg, whole, part, Stmts, end, call, loop, before, Decl, Block, Spelled}
 use Rattle.rules.specs.Readers.{Reader, _>>=_, give, refused, marked, spelling, named as namedOf, isNext, after, mark as markOf, aName, ifNext, restUpTo, rest, some, any}
 use Rattle.rules.specs.Grammar.{Expr, Body, factored, joined, isSum, isProduct, opOf, chainUpTo, chain, expressionOf, factor, expression, bounds, declared, vectored, aType, port, local, generics, ports, argument, arguments, calling, looping, stated, statement, body, aBlock, blocks, grammar}
 use Rattle.rules.specs.Laws.Placed.{Placed, bad, named, number, mark, the-end, word-placed, pick-of}
 use Rattle.rules.specs.Laws.Sized.{Sized, word-sized, named as short-name, number as small-number}
-use Rattle.rules.specs.Laws.Spelt.{SpeltName, SpeltCall, SpeltBlock, All, AllExp, AllSort, AllArg, AllStmts, before-all, AllDecl, AllBlock}
+use Rattle.rules.specs.Laws.Spelt.{SpeltName, SpeltCall, SpeltBlock, All, strength, AllExp, all-above, AllSort, AllArg, AllStmts, before-all, AllDecl, AllBlock}
 
 pub data Sure (len at : ℕ) {A : Type 0} (P : A → Type 0) : Out (A × ℕ) → Type 0 where
   on : {a : A} {n : ℕ} → at ≤ n → n ≤ len → P a → Sure len at P (ok (a, n))
@@ -153,11 +153,14 @@ module _ (s : List ℕ) where
 
   -- ---- expressions
 
-  abbrev SpeltExp : Expr → Type 0
-  SpeltExp e = AllExp {C = Name} (SpeltName s) (SpeltCall s) (length s) e
+  abbrev SpeltAt : ℕ → Expr → Type 0
+  SpeltAt l e = AllExp {C = Name} (SpeltName s) (SpeltCall s) (length s) l e
 
-  sure-factored : {at : ℕ} {w : Word} (f g : ℕ → Reader Expr) → Placed (length s) at w → Sized w → ((p : ℕ) → p ≤ length s → SureReader SpeltExp (f p)) → ((p : ℕ) → p ≤ length s → SureReader SpeltExp (g p))
-      → Sure (length s) at SpeltExp (factored s w f g)
+  abbrev SpeltExp : Expr → Type 0
+  SpeltExp e = SpeltAt 2 e
+
+  sure-factored : {at : ℕ} {w : Word} (f g : ℕ → Reader Expr) → Placed (length s) at w → Sized w → ((p : ℕ) → p ≤ length s → SureReader (SpeltAt 0) (f p)) → ((p : ℕ) → p ≤ length s → SureReader (SpeltAt 0) (g p))
+      → Sure (length s) at (SpeltAt 0) (factored s w f g)
   unfolding factored AllExp
   sure-factored f g (bad h) z p q = no-3 h
   sure-factored {at} f g (named {p = x} {q = y} a b c) z p q = let l : at ≤ y = omega arith in on l c (spelt x y b c (short z))
@@ -167,31 +170,52 @@ module _ (s : List ℕ) where
   sure-factored f g (the-end h) z p q =
       sure-from h (sure-pick _ (λ _. p (length s) (omega arith)) (sure-pick _ (λ _. q (length s) (omega arith)) (sure-no 4 (length s) (omega arith) (omega arith) (omega arith))) (length s) (omega arith))
 
-  sure-joined : {at : ℕ} {w : Word} (joins : ℕ → Bool) (f : ℕ → Reader Expr) (g : Reader Expr) → Placed (length s) at w → at ≤ length s → ((b : ℕ) → SureReader SpeltExp (f b)) → SureReader SpeltExp g
-      → Sure (length s) at SpeltExp (joined joins w f g at)
+  sure-joined : {P : Expr → Type 0} {at : ℕ} {w : Word} (joins : ℕ → Bool) (f : ℕ → Reader Expr) (g : Reader Expr) → Placed (length s) at w → at ≤ length s → ((b : ℕ) → T (joins b) → SureReader P (f b)) → SureReader P g
+      → Sure (length s) at P (joined joins w f g at)
   unfolding joined
-  sure-joined {at} joins f g (bad h) l p q = q at l
-  sure-joined {at} joins f g (named a b c) l p q = q at l
-  sure-joined {at} joins f g (number a b c) l p q = q at l
-  sure-joined {at} joins f g (mark {b} {q = z} h k c) l p q =
-      pick-of (λ r. Sure (length s) at SpeltExp (r at)) (joins b) (λ _. f b z) g (λ t. sure-from (omega arith) (p b z c)) (λ t. q at l)
-  sure-joined {at} joins f g (the-end h) l p q =
-      pick-of (λ r. Sure (length s) at SpeltExp (r at)) (joins 0) (λ _. f 0 (length s)) g (λ t. sure-from h (p 0 (length s) (omega arith))) (λ t. q at l)
+  sure-joined {at = at} joins f g (bad h) l p q = q at l
+  sure-joined {at = at} joins f g (named a b c) l p q = q at l
+  sure-joined {at = at} joins f g (number a b c) l p q = q at l
+  sure-joined {P} {at} joins f g (mark {b} {q = z} h k c) l p q =
+      pick-of (λ r. Sure (length s) at P (r at)) (joins b) (λ _. f b z) g (λ t. sure-from (omega arith) (p b t z c)) (λ t. q at l)
+  sure-joined {P} {at} joins f g (the-end h) l p q =
+      pick-of (λ r. Sure (length s) at P (r at)) (joins 0) (λ _. f 0 (length s)) g (λ t. sure-from h (p 0 t (length s) (omega arith))) (λ t. q at l)
 
-  sure-chainUpTo : (joins : ℕ → Bool) (item : Reader Expr) → SureReader SpeltExp item → (bound : ℕ) (e : Expr) → SpeltExp e → SureReader SpeltExp (chainUpTo s joins item bound e)
-  unfolding chainUpTo AllExp
-  sure-chainUpTo joins item f zero e x at h = off {n = 4} {p = 0} (omega arith) (omega arith) (omega arith)
-  sure-chainUpTo joins item f (suc bound) e x at h =
-      sure-joined joins _ _ (word-placed s at h) h (λ b. sure-bind f λ d y. sure-chainUpTo joins item f bound (both (opOf b) e d) (x, y)) (sure-give e x)
+  -- marks of one strength join items of the level below
+  module _ (l : ℕ) (joins : ℕ → Bool) (strong : (b : ℕ) → T (joins b) → strength (opOf b) ≡ suc l) (item : Reader Expr) (sure : SureReader (SpeltAt l) item) where
+    sure-chainUpTo : (bound : ℕ) (e : Expr) → SpeltAt (suc l) e → SureReader (SpeltAt (suc l)) (chainUpTo s joins item bound e)
+    unfolding chainUpTo AllExp
+    sure-chainUpTo zero e x at h = off {n = 4} {p = 0} (omega arith) (omega arith) (omega arith)
+    sure-chainUpTo (suc bound) e x at h =
+        sure-joined joins _ _ (word-placed s at h) h
+        (λ b t. sure-bind sure λ d y. let q = strong b t in let one : suc l - 1 ≡ l = omega arith in
+        sure-chainUpTo bound (both (opOf b) e d) (rw (q, one) (omega arith, x, y)))
+        (sure-give e x)
 
-  pub sure-chain : (joins : ℕ → Bool) (item : Reader Expr) → SureReader SpeltExp item → SureReader SpeltExp (chain s joins item)
-  unfolding chain
-  sure-chain joins item f = sure-bind f λ e x. sure-chainUpTo joins item f _ e x
+    pub sure-chain : SureReader (SpeltAt (suc l)) (chain s joins item)
+    unfolding chain
+    sure-chain = sure-bind sure λ e x. sure-chainUpTo _ e (all-above (SpeltName s) (SpeltCall s) (length s) l (suc l) e (omega arith) x)
 
-  sure-expressionOf : (f : Reader Expr) → SureReader SpeltExp f → SureReader SpeltExp (expressionOf s f)
-  sure-expressionOf f h = sure-chain isSum (chain s isProduct f) (sure-chain isProduct f h)
+  sum-strong : (b : ℕ) → T (isSum b) → strength (opOf b) ≡ 2
+  unfolding strength pick
+  sum-strong b t = sum-is (eqb b (key "+")) (eqb b (key "-")) t
+    where
+      sum-is : (p m : Bool) → T (p || m) → strength (pick p plus (pick m minus times)) ≡ 2
+      sum-is true m t = refl
+      sum-is false true t = refl
+      sum-is false false t = absurd t
 
-  pub sure-factor : (left : ℕ) → SureReader SpeltExp (factor s left)
+  product-strong : (b : ℕ) → T (isProduct b) → strength (opOf b) ≡ 1
+  unfolding strength pick
+  product-strong b t = rw (eqb→eq b (key "*") t) refl
+
+  pub sure-term : (f : Reader Expr) → SureReader (SpeltAt 0) f → SureReader (SpeltAt 1) (chain s isProduct f)
+  sure-term f h = sure-chain 0 isProduct product-strong f h
+
+  sure-expressionOf : (f : Reader Expr) → SureReader (SpeltAt 0) f → SureReader SpeltExp (expressionOf s f)
+  sure-expressionOf f h = sure-chain 1 isSum sum-strong (chain s isProduct f) (sure-term f h)
+
+  pub sure-factor : (left : ℕ) → SureReader (SpeltAt 0) (factor s left)
   unfolding factor AllExp
   sure-factor zero at h = sure-factored _ _ (word-placed s at h) (word-sized s at) (λ p l. sure-no 5 p (omega arith) (omega arith) l) (λ p l. sure-no 5 p (omega arith) (omega arith) l)
   sure-factor (suc left) at h = sure-factored _ _ (word-placed s at h) (word-sized s at)
