@@ -22,3 +22,4 @@ pub mod Shows
 pub mod Spelt
 pub mod Sized
 pub mod Sure
+pub mod Numbered

@@ -53,7 +53,7 @@ StmtsOk sigs E (loop p i a b body rest) = StmtsOk sigs E body × StmtsOk sigs E 
 
 -- ---- names give it
 
-found : (E : Scope) (n : Name) {k : ℕ} → find E n ≡ ok k → k < length E
+pub found : (E : Scope) (n : Name) {k : ℕ} → find E n ≡ ok k → k < length E
 unfolding find
 found E n e = inv-at _ _ _ e λ _ t e₁. subst (λ k. k < length E) (ok-inj e₁) (subst (λ l. indexOf (n .letters) (spellings E) < l) (length-map E (λ e. e .letters)) (ltb→lt _ _ (need-yes _ _ t)))
 
@@ -119,7 +119,7 @@ snoc-wire (suc n) = ap (λ l. a-wire ∷ l) (snoc-wire n)
 abbrev sigsOf : {N C : Type 0} → List (Block N C) → List (List Role)
 sigsOf Bs = map portsOf Bs
 
-pick-or : (c : Bool) {A : Type 0} {x y z : Out A} → pick c x y ≡ z → (T c × (x ≡ z)) ⊎ (y ≡ z)
+pub pick-or : (c : Bool) {A : Type 0} {x y z : Out A} → pick c x y ≡ z → (T c × (x ≡ z)) ⊎ (y ≡ z)
 unfolding pick
 pick-or true e = inl (tt, e)
 pick-or false e = inr e
@@ -224,7 +224,7 @@ pub record Scoped (P : Program) : Type 0 where
   pub blocks : BlocksOk (sigsOf (P .blocks)) (P .blocks)
   pub main : P .main < length (P .blocks)
 
-nth-below : {A : Type 0} (n : ℕ) (xs : List A) (k : ℕ) {x : A} → nth n xs k ≡ ok x → k < length xs
+pub nth-below : {A : Type 0} (n : ℕ) (xs : List A) (k : ℕ) {x : A} → nth n xs k ≡ ok x → k < length xs
 unfolding nth
 nth-below n [] k e = absurd (no-ok e)
 nth-below n (x ∷ xs) zero e = omega arith

@@ -17,6 +17,7 @@ use Rattle.rules.specs.Words.{wordAt, key}
 use Rattle.rules.specs.Syntax.{Name, plus, minus, times, Exp, name as called, number as valued, neg, group, both, Sort, wire, vector, num, Arg, whole, part, Stmts, end, call, loop, before, Decl, Block, Spelled}
 use Rattle.rules.specs.Readers.{Reader, _>>=_, give, refused, marked, spelling, named as namedOf, isNext, after, mark as markOf, aName, ifNext, restUpTo, rest, some, any}
 use Rattle.rules.specs.Grammar.{Expr, Body, factored, joined, isSum, isProduct, opOf, chainUpTo, chain, expressionOf, factor, expression, bounds, declared, vectored, aType, port, local, generics, ports, argument, arguments, calling, looping, stated, statement, body, aBlock, blocks, grammar}
+use Rattle.rules.specs.Laws.Outcomes.{no-ok, ok-inj}
 use Rattle.rules.specs.Laws.Placed.{Placed, bad, named, number, mark, the-end, word-placed, pick-of}
 use Rattle.rules.specs.Laws.Sized.{Sized, word-sized, named as short-name, number as small-number}
 use Rattle.rules.specs.Laws.Spelt.{SpeltName, SpeltCall, SpeltBlock, All, strength, AllExp, all-above, AllSort, AllArg, AllStmts, before-all, AllDecl, AllBlock}
@@ -24,6 +25,10 @@ use Rattle.rules.specs.Laws.Spelt.{SpeltName, SpeltCall, SpeltBlock, All
 pub data Sure (len at : ℕ) {A : Type 0} (P : A → Type 0) : Out (A × ℕ) → Type 0 where
   on : {a : A} {n : ℕ} → at ≤ n → n ≤ len → P a → Sure len at P (ok (a, n))
   off : {n p : ℕ} → 3 ≤ n → n ≤ 5 → p ≤ len → Sure len at P (refuse n p)
+
+pub sure-ok : {A : Type 0} {P : A → Type 0} {len at : ℕ} {o : Out (A × ℕ)} {r : A × ℕ} → Sure len at P o → o ≡ ok r → P (r .0)
+sure-ok {P = P} (on a b c) e = subst (λ r. P (r .0)) (ok-inj e) c
+sure-ok (off a b c) e = absurd (no-ok e)
 
 -- ---- how readers are put together
 
