@@ -1,0 +1,61 @@
+-- Words that lie on the tape from a place on, and how they come apart. Assumes nothing.
+use mathlib.Core.Path.{_≡_, refl, sym, ap, _∙_, subst}
+use Prim.Native.Nat.{ℕ, zero, suc, _+_, _-_, _≤_, _<_}
+use native.Mathlib.Omega.{arith}
+use mathlib.Core.Logic.{_≢_}
+use mathlib.Core.List.{List, [], _∷_, _++_}
+use lib.ListN.{length, getD, set, take, drop, length-append, length-set, List·getD-append}
+use lib.Seq.{getD-append-add, getD-set-same, getD-set-other, ext-getD}
+
+pub record Lies (t : List ℕ) (at : ℕ) (ws : List ℕ) : Type 0 where
+  pub fits : at + length ws ≤ length t
+  pub word : (i : ℕ) → i < length ws → getD t (at + i) 0 ≡ getD ws i 0
+
+module _ {t : List ℕ} {at : ℕ} where
+  pub lies-first : {w : ℕ} {ws : List ℕ} → Lies t at (w ∷ ws) → getD t at 0 ≡ w
+  lies-first {w} l = let e : at + 0 ≡ at = omega arith in subst (λ k. getD t k 0 ≡ w) e (l .word 0 (omega arith))
+
+  pub lies-room : {w : ℕ} {ws : List ℕ} → Lies t at (w ∷ ws) → at < length t
+  lies-room l = omega (arith, l .fits)
+
+  pub lies-rest : {w : ℕ} {ws : List ℕ} → Lies t at (w ∷ ws) → Lies t (at + 1) ws
+  lies-rest {w} {ws} l = record {
+    fits = omega (arith, l .fits);
+    word = λ i h. let e : at + 1 + i ≡ at + suc i = omega arith in ap (λ k. getD t k 0) e ∙ l .word (suc i) (omega arith);
+  }
+
+  pub lies-left : (a b : List ℕ) → Lies t at (a ++ b) → Lies t at a
+  lies-left a b l = record {
+    fits = omega (arith, l .fits, length-append a b);
+    word = λ i h. l .word i (omega (arith, length-append a b)) ∙ List·getD-append a b 0 i h;
+  }
+
+  pub lies-right : (a b : List ℕ) → Lies t at (a ++ b) → Lies t (at + length a) b
+  lies-right a b l = record {
+    fits = omega (arith, l .fits, length-append a b);
+    word = λ i h. let e : at + length a + i ≡ at + (length a + i) = omega arith in ap (λ k. getD t k 0) e ∙ l .word (length a + i) (omega (arith, length-append a b)) ∙ getD-append-add a b i 0;
+  }
+
+  pub lies-none : at ≤ length t → Lies t at []
+  lies-none h = record { fits = omega arith; word = λ i k. absurd (omega arith) }
+
+  pub lies-both : (a b : List ℕ) → Lies t at a → Lies t (at + length a) b → Lies t at (a ++ b)
+  lies-both a b l m = record { fits = omega (arith, m .fits, length-append a b); word = λ i h. go i h (native.Mathlib.Decide.decLt i (length a)) }
+    where
+      go : (i : ℕ) → i < length (a ++ b) → Dec (i < length a) → getD t (at + i) 0 ≡ getD (a ++ b) i 0
+      go i h (yes k) = l .word i k ∙ sym (List·getD-append a b 0 i k)
+      go i h (no k) =
+          let e : at + length a + (i - length a) ≡ at + i = omega arith in
+          let f : length a + (i - length a) ≡ i = omega arith in
+          subst (λ j. getD t j 0 ≡ getD (a ++ b) i 0) e (m .word (i - length a) (omega (arith, length-append a b)) ∙ sym (getD-append-add a b (i - length a) 0) ∙ ap (λ j. getD (a ++ b) j 0) f)
+
+-- a store elsewhere leaves them
+pub lies-set : {t : List ℕ} {at : ℕ} {ws : List ℕ} (i w : ℕ) → Lies t at ws → ((k : ℕ) → k < length ws → (at + k ≡ i → ⊥)) → Lies (set t i w) at ws
+lies-set {t} {at} {ws} i w l f = record {
+  fits = omega (arith, l .fits, length-set t i w);
+  word = λ k h. getD-set-other t i (at + k) w 0 (f k h) ∙ l .word k h;
+}
+
+-- the tape whose words from `at` on are ws
+pub lies-at : {t : List ℕ} {at : ℕ} {ws : List ℕ} → Lies t at ws → {us : List ℕ} → length us ≡ length ws → Lies t at us → us ≡ ws
+lies-at {t} {at} {ws} l {us} e m = ext-getD 0 us ws e λ i h. sym (m .word i h) ∙ l .word i (omega (arith, e))
