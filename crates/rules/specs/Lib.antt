@@ -16,3 +16,4 @@ pub mod Run
 pub mod Flat
 pub mod Flatten
 pub mod Edges
+pub mod Laws
