@@ -1,4 +1,11 @@
 // The machine types that the definitions speak of. Every rule itself stands in specs/.
+ghost use mathlib.Core.Path.{_≡_};
+ghost use mathlib.Core.Bool.{cond};
+ghost use mathlib.Core.List.{[], _∷_};
+ghost use lib.Dec.{eqb};
+ghost use Rattle.rules.specs.Primitives.{inputsOf};
+ghost use Rattle.rules.specs.Meaning.{makes};
+ghost use Rattle.rules.specs.Run.{toByte, fromByte};
 
 // A gate of a netlist: its five words (01, "Unfolding").
 pub struct Gate {
@@ -30,6 +37,43 @@ impl Gate {
     pub const ZERO: u16 = 8;
 
     pub const ONE: u16 = 9;
+
+    // How many inputs a kind has; a number past the table has none.
+    pub fn inputs(kind: u16) -> usize
+        ensures { λ r. ⌜ r ≡ inputsOf kind ⌝ }
+    {
+        match kind {
+            Gate::CONNECT | Gate::NOT => 1,
+            Gate::AND | Gate::OR | Gate::XOR | Gate::NAND | Gate::NOR => 2,
+            Gate::MUX => 3,
+            _ => 0,
+        }
+    }
+
+    // The output that a kind makes of its inputs: a byte is read as 1 or not, so that any byte may be given.
+    pub fn bit(kind: u16, a: u8, b: u8, c: u8) -> u8
+        ensures { λ r. ⌜ r ≡ toByte (makes kind (fromByte a ∷ fromByte b ∷ fromByte c ∷ [])) ⌝ }
+    {
+        match kind {
+            Gate::CONNECT => chosen(a, 0, 1),
+            Gate::NOT => chosen(a, 1, 0),
+            Gate::AND => chosen(a, 0, chosen(b, 0, 1)),
+            Gate::OR => chosen(a, chosen(b, 0, 1), 1),
+            Gate::XOR => chosen(a, chosen(b, 0, 1), chosen(b, 1, 0)),
+            Gate::NAND => chosen(a, 1, chosen(b, 1, 0)),
+            Gate::NOR => chosen(a, chosen(b, 1, 0), 0),
+            Gate::MUX => chosen(a, chosen(b, 0, 1), chosen(c, 0, 1)),
+            Gate::ONE => 1,
+            _ => 0,
+        }
+    }
+}
+
+// v where the byte c stands for 1, else u.
+fn chosen(c: u8, u: u8, v: u8) -> u8
+    ensures { λ r. ⌜ r ≡ cond (eqb c 1) v u ⌝ }
+{
+    if c == 1 { v } else { u }
 }
 
 // A word of a text and where it stands: from its first byte to the byte after it (01, "Words and order of words").
