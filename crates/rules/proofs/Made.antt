@@ -1,10 +1,10 @@
 -- What each kind counts and makes. Assumes nothing.
 use mathlib.Core.Path.{_≡_, refl, sym, ap, _∙_}
 use mathlib.Core.Bool.{Bool, true, false, cond}
-use mathlib.Core.List.{List, [], _∷_}
+use mathlib.Core.List.{List, [], _∷_, _++_}
 use Prim.Native.Nat.{ℕ, zero, suc, _+_, _-_, _≤_, _<_}
 use native.Mathlib.Omega.{arith}
-use lib.ListN.{getD, length, List·getD-eq-default}
+use lib.ListN.{getD, length, replicate, List·getD-eq-default}
 use lib.Dec.{eqb}
 use Rattle.rules.specs.Primitives.{Primitive, table, primitive, inputsOf}
 use Rattle.rules.specs.Meaning.{Signal, dark, makes}
@@ -38,6 +38,11 @@ inputs-none k g h = go (k - 8) (omega arith)
 
 past : (n k : ℕ) → n ≤ k → (k ≡ n → ⊥) → suc n ≤ k
 past n k h g = omega arith
+
+past-seven : (k : ℕ) → ((((((((Unit {0} × (k ≡ 0 → ⊥)) × (k ≡ 1 → ⊥)) × (k ≡ 2 → ⊥)) × (k ≡ 3 → ⊥)) × (k ≡ 4 → ⊥)) × (k ≡ 5 → ⊥)) × (k ≡ 6 → ⊥)) × (k ≡ 7 → ⊥)) → 8 ≤ k
+past-seven k h =
+    past 7 k (past 6 k (past 5 k (past 4 k (past 3 k (past 2 k (past 1 k (past 0 k (omega arith)
+    (h .0 .0 .0 .0 .0 .0 .0 .1)) (h .0 .0 .0 .0 .0 .0 .1)) (h .0 .0 .0 .0 .0 .1)) (h .0 .0 .0 .0 .1)) (h .0 .0 .0 .1)) (h .0 .0 .1)) (h .0 .1)) (h .1)
 
 -- 8, or past the table: nothing but 0 is made
 bit-none : (k : ℕ) (is : List Signal) → 8 ≤ k → (k ≡ 9 → ⊥) → 0 ≡ toByte (makes k is)
@@ -137,8 +142,11 @@ module _ (k a b c : ℕ) where
 
   -- zero, and a number past the table
   pub of-rest : (((((((((Unit {0} × (k ≡ 0 → ⊥)) × (k ≡ 1 → ⊥)) × (k ≡ 2 → ⊥)) × (k ≡ 3 → ⊥)) × (k ≡ 4 → ⊥)) × (k ≡ 5 → ⊥)) × (k ≡ 6 → ⊥)) × (k ≡ 7 → ⊥)) × (k ≡ 9 → ⊥)) → 0 ≡ toByte (makes k (given a b c))
-  of-rest (h, n9) =
-      bit-none k (given a b c)
-      (past 7 k (past 6 k (past 5 k (past 4 k (past 3 k (past 2 k (past 1 k (past 0 k (omega arith)
-      (h .0 .0 .0 .0 .0 .0 .0 .1)) (h .0 .0 .0 .0 .0 .0 .1)) (h .0 .0 .0 .0 .0 .1)) (h .0 .0 .0 .0 .1)) (h .0 .0 .0 .1)) (h .0 .0 .1)) (h .0 .1)) (h .1))
-      n9
+  of-rest (h, n9) = bit-none k (given a b c) (past-seven k h) n9
+
+-- a number past the table has no name
+pub no-name : (k : ℕ) → ((((((((((Unit {0} × (k ≡ 0 → ⊥)) × (k ≡ 1 → ⊥)) × (k ≡ 2 → ⊥)) × (k ≡ 3 → ⊥)) × (k ≡ 4 → ⊥)) × (k ≡ 5 → ⊥)) × (k ≡ 6 → ⊥)) × (k ≡ 7 → ⊥)) × (k ≡ 8 → ⊥)) × (k ≡ 9 → ⊥)) → (0 ≡ length (primitive k .name)) × (replicate 7 0 ≡ primitive k .name ++ replicate (7 - length (primitive k .name)) 0)
+unfolding primitive
+no-name k ((h, n8), n9) =
+    let g : 10 ≤ k = past 9 k (past 8 k (past-seven k h) n8) n9 in
+    rw (List·getD-eq-default table _ {n = k} g) (refl, refl)

@@ -1,9 +1,11 @@
 // The machine types that the definitions speak of. Every rule itself stands in specs/.
 ghost use mathlib.Core.Path.{_≡_};
 ghost use mathlib.Core.Bool.{cond};
-ghost use mathlib.Core.List.{[], _∷_};
+ghost use mathlib.Core.List.{[], _∷_, _++_};
+ghost use Prim.Native.Nat.{_-_};
+ghost use lib.ListN.{length, replicate};
 ghost use lib.Dec.{eqb};
-ghost use Rattle.rules.specs.Primitives.{inputsOf};
+ghost use Rattle.rules.specs.Primitives.{primitive, inputsOf};
 ghost use Rattle.rules.specs.Meaning.{makes};
 ghost use Rattle.rules.specs.Run.{toByte, fromByte};
 
@@ -14,6 +16,12 @@ pub struct Gate {
     pub b: u16,
     pub c: u16,
     pub out: u16,
+}
+
+// The name of a primitive: so many letters, then zeros.
+pub struct Name {
+    pub letters: [u8; 7],
+    pub length: usize,
 }
 
 // Kind numbers belong to the gate type (01, "Primitives").
@@ -37,6 +45,58 @@ impl Gate {
     pub const ZERO: u16 = 8;
 
     pub const ONE: u16 = 9;
+
+    // A kind's name; a number past the table has none.
+    pub fn name(kind: u16) -> Name
+        ensures { λ r. ⌜ (r .length ≡ length (primitive kind .name)) × (r .letters ≡ primitive kind .name ++ replicate (7 - length (primitive kind .name)) 0) ⌝ }
+    {
+        match kind {
+            Gate::CONNECT => Name {
+                letters: *b"connect",
+                length: 7,
+            },
+            Gate::NOT => Name {
+                letters: *b"not\0\0\0\0",
+                length: 3,
+            },
+            Gate::AND => Name {
+                letters: *b"and\0\0\0\0",
+                length: 3,
+            },
+            Gate::OR => Name {
+                letters: *b"or\0\0\0\0\0",
+                length: 2,
+            },
+            Gate::XOR => Name {
+                letters: *b"xor\0\0\0\0",
+                length: 3,
+            },
+            Gate::NAND => Name {
+                letters: *b"nand\0\0\0",
+                length: 4,
+            },
+            Gate::NOR => Name {
+                letters: *b"nor\0\0\0\0",
+                length: 3,
+            },
+            Gate::MUX => Name {
+                letters: *b"mux\0\0\0\0",
+                length: 3,
+            },
+            Gate::ZERO => Name {
+                letters: *b"zero\0\0\0",
+                length: 4,
+            },
+            Gate::ONE => Name {
+                letters: *b"one\0\0\0\0",
+                length: 3,
+            },
+            _ => Name {
+                letters: [0; 7],
+                length: 0,
+            },
+        }
+    }
 
     // How many inputs a kind has; a number past the table has none.
     pub fn inputs(kind: u16) -> usize
