@@ -1,0 +1,4 @@
+pub mod Ran
+pub mod Known
+pub mod Going
+pub mod Visits
