@@ -1,0 +1,1 @@
+// A netlist as flat text.
