@@ -83,31 +83,47 @@ name-most (suc (suc (suc (suc (suc (suc (suc (suc (suc (suc k)))))))))) = omega 
 gate-most : (g : Gate) → length (gateText g) ≤ 36
 unfolding gateText sizes
 gate-most g =
-    omega
-    (arith, name-most (g .kind), wires-most (inputsAt g), take-most (inputsOf (g .kind)) (g .a) (g .b) (g .c), wire-most (g .out),
-    joined-size (primitive (g .kind) .name ∷ bytes " [" ∷ wiresText (inputsAt g) ∷ bytes "] [" ∷ wireText (g .out) ∷ bytes "]" ∷ []))
+    omega (
+      arith,
+      name-most (g .kind),
+      wires-most (inputsAt g),
+      take-most (inputsOf (g .kind)) (g .a) (g .b) (g .c),
+      wire-most (g .out),
+      joined-size (primitive (g .kind) .name ∷ bytes " [" ∷ wiresText (inputsAt g) ∷ bytes "] [" ∷ wireText (g .out) ∷ bytes "]" ∷ []),
+    )
 
 gates-most : (n i : ℕ) (w : List ℕ) → length (gatesText w i n) ≤ 38 * n
 unfolding gatesText sizes
 gates-most zero i w = omega arith
 gates-most (suc n) i w =
-    omega
-    (arith, gates-most n (suc i) w, gate-most (gateAt w i), between-most (bytes ";") n,
-    joined-size (gateText (gateAt w i) ∷ between (bytes ";") n ∷ bytes "\n" ∷ gatesText w (suc i) n ∷ []))
+    omega (
+      arith,
+      gates-most n (suc i) w,
+      gate-most (gateAt w i),
+      between-most (bytes ";") n,
+      joined-size (gateText (gateAt w i) ∷ between (bytes ";") n ∷ bytes "\n" ∷ gatesText w (suc i) n ∷ []),
+    )
 
 pub flat-fits : (w : List ℕ) → WellFormed w → length (flatText w) ≤ 65536
 unfolding flatText sizes
 flat-fits w wf =
-    omega
-    (arith, wf .ports, wf .few-wires, wf .few-gates, ports-most (inputs w) 0, ports-most (outputs w) (inputs w),
-    vars-most (wires w - (inputs w + outputs w)) (inputs w + outputs w), gates-most (gates w) 0 w,
-    joined-size
-    (bytes "BLOCK main\n["
-    ∷ portsText 0 (inputs w)
-    ∷ bytes "["
-    ∷ portsText (inputs w) (outputs w)
-    ∷ varsText (inputs w + outputs w) (wires w - (inputs w + outputs w))
-    ∷ bytes "BEGIN\n"
-    ∷ gatesText w 0 (gates w)
-    ∷ bytes "END;\n"
-    ∷ []))
+    omega (
+      arith,
+      wf .ports,
+      wf .few-wires,
+      wf .few-gates,
+      ports-most (inputs w) 0,
+      ports-most (outputs w) (inputs w),
+      vars-most (wires w - (inputs w + outputs w)) (inputs w + outputs w),
+      gates-most (gates w) 0 w,
+      joined-size
+          (bytes "BLOCK main\n["
+          ∷ portsText 0 (inputs w)
+          ∷ bytes "["
+          ∷ portsText (inputs w) (outputs w)
+          ∷ varsText (inputs w + outputs w) (wires w - (inputs w + outputs w))
+          ∷ bytes "BEGIN\n"
+          ∷ gatesText w 0 (gates w)
+          ∷ bytes "END;\n"
+          ∷ []),
+    )

@@ -2,3 +2,4 @@ pub mod Wrote
 pub mod Put
 pub mod Pieces
 pub mod Fits
+pub mod Writes

@@ -78,7 +78,7 @@ gate-of g = refl
 -- ---- lists: the first entry apart from the rest, and none. Code counts up to n, the definitions count down
 
 pub ports-open : (s n i : ℕ) → i < n
-  → portsText (s + i) (n - i) ≡ joined (entryText (s + i) ∷ between (bytes ",") (n - (i + 1)) ∷ portsText (s + (i + 1)) (n - (i + 1)) ∷ [])
+    → portsText (s + i) (n - i) ≡ joined (entryText (s + i) ∷ between (bytes ",") (n - (i + 1)) ∷ portsText (s + (i + 1)) (n - (i + 1)) ∷ [])
 unfolding portsText
 ports-open s n i h =
     let e : n - i ≡ suc (n - (i + 1)) = omega arith in
@@ -93,7 +93,7 @@ pub ports-begin : (s n : ℕ) → portsText s n ≡ portsText (s + 0) (n - 0)
 ports-begin s n = let e : s ≡ s + 0 = omega arith in let f : n ≡ n - 0 = omega arith in ap (λ (k : ℕ). portsText k n) e ∙ ap (λ (k : ℕ). portsText (s + 0) k) f
 
 pub vars-open : (s n i : ℕ) → i < n
-  → varsText (s + i) (n - i) ≡ joined (bytes "VAR " ∷ entryText (s + i) ∷ bytes ";\n" ∷ varsText (s + (i + 1)) (n - (i + 1)) ∷ [])
+    → varsText (s + i) (n - i) ≡ joined (bytes "VAR " ∷ entryText (s + i) ∷ bytes ";\n" ∷ varsText (s + (i + 1)) (n - (i + 1)) ∷ [])
 unfolding varsText
 vars-open s n i h =
     let e : n - i ≡ suc (n - (i + 1)) = omega arith in
@@ -108,7 +108,7 @@ pub vars-begin : (s n : ℕ) → varsText s n ≡ varsText (s + 0) (n - 0)
 vars-begin s n = let e : s ≡ s + 0 = omega arith in let f : n ≡ n - 0 = omega arith in ap (λ (k : ℕ). varsText k n) e ∙ ap (λ (k : ℕ). varsText (s + 0) k) f
 
 pub gates-open : (w : List ℕ) (n i : ℕ) → i < n
-  → gatesText w i (n - i) ≡ joined (gateText (gateAt w i) ∷ between (bytes ";") (n - (i + 1)) ∷ bytes "\n" ∷ gatesText w (i + 1) (n - (i + 1)) ∷ [])
+    → gatesText w i (n - i) ≡ joined (gateText (gateAt w i) ∷ between (bytes ";") (n - (i + 1)) ∷ bytes "\n" ∷ gatesText w (i + 1) (n - (i + 1)) ∷ [])
 unfolding gatesText
 gates-open w n i h =
     let e : n - i ≡ suc (n - (i + 1)) = omega arith in

@@ -83,9 +83,9 @@ put-is {t} {u} {at} {r} e a = subst (λ (p : List ℕ). Put t at p r u) e a
 pub put-next : {t u p : List ℕ} {at r s : ℕ} → r ≡ s → Put t at p r u → Put t at p s u
 put-next {t} {u} {p} {at} e a = subst (λ (r : ℕ). Put t at p r u) e a
 
-pub begin-one : {t p : List ℕ} {at : ℕ} → at + length p ≤ length t → Writing t at p (p ∷ []) at t
+pub begin-one : (t : List ℕ) (at : ℕ) (p : List ℕ) → at + length p ≤ length t → Writing t at p (p ∷ []) at t
 unfolding joined
-begin-one {t} {p} {at} h = record { room = rw (append-nil p) h; ends = λ {r} {u} b. put-is (append-nil p) b }
+begin-one t at p h = record { room = rw (append-nil p) h; ends = λ {r} {u} b. put-is (append-nil p) b }
 
 -- the first piece is another
 pub piece-is : {t₀ t whole p q : List ℕ} {at₀ at : ℕ} {ps : List (List ℕ)} → p ≡ q → Writing t₀ at₀ whole (p ∷ ps) at t → Writing t₀ at₀ whole (q ∷ ps) at t
