@@ -7,6 +7,7 @@ use native.Mathlib.Numerals.{add-one}
 use lib.ListN.{getD, length, take, drop, length-append, length-drop, List·getD-append}
 use lib.Seq.{drop-drop, drop-append-seam, getD-drop, take-append-seam, length-take-le, getD-take, ext-getD, drop-length}
 use Rattle.rules.specs.Flat.{joined}
+use Rattle.write.specs.Put.{joined-append}
 use Rattle.compare.specs.declared.Seen.{Seen}
 use Rattle.compare.specs.declared.Seen.the-variants.{To, Not}
 
@@ -63,11 +64,6 @@ begin-one t at p h = record { inside = h; ends = λ {r} m. match-is (append-nil 
 
 pub piece-is : {t whole p q : List ℕ} {at₀ at : ℕ} {ps : List (List ℕ)} → p ≡ q → Walking t at₀ whole (p ∷ ps) at → Walking t at₀ whole (q ∷ ps) at
 piece-is {t} {whole} {at₀} {at} {ps} e w = subst (λ (p : List ℕ). Walking t at₀ whole (p ∷ ps) at) e w
-
-joined-append : (ps qs : List (List ℕ)) → joined (ps ++ qs) ≡ joined ps ++ joined qs
-unfolding joined
-joined-append [] qs = refl
-joined-append (p ∷ ps) qs = ap (λ (l : List ℕ). p ++ l) (joined-append ps qs) ∙ sym (append-assoc p (joined ps) (joined qs))
 
 pub apart : {t whole p : List ℕ} {at₀ at : ℕ} {qs : List (List ℕ)} (ps : List (List ℕ)) → p ≡ joined ps → Walking t at₀ whole (p ∷ qs) at → Walking t at₀ whole (ps ++ qs) at
 unfolding joined

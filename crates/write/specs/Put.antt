@@ -56,7 +56,7 @@ unfolding joined
 finish w = w .ends put-none
 
 -- the first piece taken apart
-joined-append : (ps qs : List (List ℕ)) → joined (ps ++ qs) ≡ joined ps ++ joined qs
+pub joined-append : (ps qs : List (List ℕ)) → joined (ps ++ qs) ≡ joined ps ++ joined qs
 unfolding joined
 joined-append [] qs = refl
 joined-append (p ∷ ps) qs = ap (λ (l : List ℕ). p ++ l) (joined-append ps qs) ∙ sym (append-assoc p (joined ps) (joined qs))

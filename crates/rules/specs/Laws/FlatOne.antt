@@ -71,7 +71,7 @@ value v (b ∷ l) = value (10 * v + (b - 48)) l
 tens-3 : (m : ℕ) → 100 * (m / 100) + 10 * (m / 10 % 10) + m % 10 ≡ m
 tens-3 m = omega arith
 
-tens-4 : (n : ℕ) → 1000 * (n / 1000) + 100 * (n / 100 % 10) + 10 * (n / 10 % 10) + n % 10 ≡ n
+pub tens-4 : (n : ℕ) → 1000 * (n / 1000) + 100 * (n / 100 % 10) + 10 * (n / 10 % 10) + n % 10 ≡ n
 tens-4 n =
     let e : n / 10 / 100 ≡ n / 1000 = omega arith in
     let f : n / 10 / 10 ≡ n / 100 = omega arith in

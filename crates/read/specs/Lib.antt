@@ -1,0 +1,2 @@
+pub mod WasRead
+pub mod Ahead

@@ -1,0 +1,1 @@
+// A flat text as a netlist.
