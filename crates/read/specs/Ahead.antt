@@ -93,7 +93,7 @@ unfolding joined
 first-1 n k ps l e = ap (λ (m : List ℕ). getD (m ++ joined ps) k 0) e
 
 pub number-read : {t : List ℕ} {at : ℕ} {ps : List (List ℕ)} (n r : ℕ) → n < 10000 → Ahead t at (decimal n ∷ ps) → Stops ps
-  → Value (getD t at 0) (getD t (at + 1) 0) (getD t (at + 2) 0) (getD t (at + 3) 0) r → r ≡ n
+    → Value (getD t at 0) (getD t (at + 1) 0) (getD t (at + 2) 0) (getD t (at + 3) 0) r → r ≡ n
 number-read {t} {at} {ps} n r h a z v = go (decLt n 10) (decLt n 100) (decLt n 1000)
   where
     go : Dec (n < 10) → Dec (n < 100) → Dec (n < 1000) → r ≡ n
@@ -116,9 +116,9 @@ number-read {t} {at} {ps} n r h a z v = go (decLt n 10) (decLt n 100) (decLt n 1
 -- ---- wires and slots
 
 pub wire-read : {t : List ℕ} {at q r v e : ℕ} {ps : List (List ℕ)} (n : ℕ) → n < 10000 → Ahead t at (wireText n ∷ ps) → Stops ps
-  → (at + 1 ≤ length t → q ≡ at + 1)
-  → ((m : ℕ) (qs : List (List ℕ)) → m < 10000 → Ahead t q (decimal m ∷ qs) → Stops qs → v ≡ m)
-  → e ≡ length (decimal v) → (q + e ≤ length t → r ≡ q + e) → (v ≡ n) × Ahead t r ps
+    → (at + 1 ≤ length t → q ≡ at + 1)
+    → ((m : ℕ) (qs : List (List ℕ)) → m < 10000 → Ahead t q (decimal m ∷ qs) → Stops qs → v ≡ m)
+    → e ≡ length (decimal v) → (q + e ≤ length t → r ≡ q + e) → (v ≡ n) × Ahead t r ps
 unfolding wireText
 wire-read {t} {at} {q} {r} {v} {e} {ps} n h a z fq fv fe fr =
     let b = apart (bytes "w" ∷ decimal n ∷ []) refl a in
@@ -198,11 +198,11 @@ abbrev pub KindReads : List ℕ → ℕ → ℕ → Type 0
 KindReads t at r = (k : ℕ) (ps : List (List ℕ)) → k ≤ 9 → Ahead t at (primitive k .name ∷ bytes " [" ∷ ps) → r ≡ k
 
 pub gate-read : {t : List ℕ} {at : ℕ} {ps : List (List ℕ)} (g : Gate) → Fine 1536 0 g → Ahead t at (gateText g ∷ ps)
-  → (k n w p q next av an bv bn cv cn ov on : ℕ)
-  → KindReads t at k → n ≡ inputsOf k → w ≡ length (primitive k .name) → (at + (w + 2) ≤ length t → p ≡ at + (w + 2))
-  → SlotReads t p n 0 av an → SlotReads t an n 1 bv bn → SlotReads t bn n 2 cv cn
-  → (cn + 3 ≤ length t → q ≡ cn + 3) → WireReads t q ov on → (on + 1 ≤ length t → next ≡ on + 1)
-  → (_≡_ {A = Gate} (record { kind = k; a = av; b = bv; c = cv; out = ov }) g) × Ahead t next ps
+    → (k n w p q next av an bv bn cv cn ov on : ℕ)
+    → KindReads t at k → n ≡ inputsOf k → w ≡ length (primitive k .name) → (at + (w + 2) ≤ length t → p ≡ at + (w + 2))
+    → SlotReads t p n 0 av an → SlotReads t an n 1 bv bn → SlotReads t bn n 2 cv cn
+    → (cn + 3 ≤ length t → q ≡ cn + 3) → WireReads t q ov on → (on + 1 ≤ length t → next ≡ on + 1)
+    → (_≡_ {A = Gate} (record { kind = k; a = av; b = bv; c = cv; out = ov }) g) × Ahead t next ps
 gate-read {t} {at} {ps} g f a k n w p q next av an bv bn cv cn ov on fk fn fw fp fa fb fc fq fo fnext =
     let b0 = apart (gateOf g) (gate-of g) a in
     let ek = fk (g .kind) _ (f .kind) b0 in
@@ -233,3 +233,11 @@ value-is {a} {b} {c} {d} e v = subst (λ (n : ℕ). Value a b c d n) (sym e) v
 pub value-at : {a b c d x y z u r : ℕ} → a ≡ x → b ≡ y → c ≡ z → d ≡ u → Value a b c d r → Value x y z u r
 value-at {a} {b} {c} {d} {x} {y} {z} {u} {r} e f g h v =
     subst (λ (a : ℕ). Value a y z u r) e (subst (λ (b : ℕ). Value a b z u r) f (subst (λ (c : ℕ). Value a b c u r) g (subst (λ (d : ℕ). Value a b c d r) h v)))
+
+-- none of the first nine kinds: it is the last
+pub last-kind : {t : List ℕ} {at r : ℕ} → r ≤ 9 → 9 ≤ r → ((j : ℕ) → j < r → Starts t at (joined (callOf j)) → ⊥) → KindReads t at r
+last-kind {t} {at} {r} h g f k ps l a = go (decLt k r)
+  where
+    go : Dec (k < r) → r ≡ k
+    go (yes i) = absurd (f k i (call-starts k a))
+    go (no i) = omega arith

@@ -81,7 +81,7 @@ module _ {t w v₀ v : List ℕ} {p i : ℕ} (wf : WellFormed w) (got : Got t p 
   got-full h = (omega (arith, got .most, wf .few-gates), got .put)
 
   pub got-more : {u : List ℕ} {m q r : ℕ} {g : Gate} → (getD t p 0 ≡ 69 → ⊥) → GateReads t p g m
-    → Put v (4 + 5 * i) (recordOf g) (4 + 5 * (i + 1)) u → After t m 59 q → (q + 1 ≤ length t → r ≡ q + 1) → Got t r w v₀ (i + 1) u
+      → Put v (4 + 5 * i) (recordOf g) (4 + 5 * (i + 1)) u → After t m 59 q → (q + 1 ≤ length t → r ≡ q + 1) → Got t r w v₀ (i + 1) u
   unfolding body
   got-more {u} {m} {q} {r} {g} z fg fu fq fr = go (decLt i (gates w))
     where
@@ -170,10 +170,10 @@ vars-to : {t : List ℕ} {p s s′ : ℕ} {ps : List (List ℕ)} (n : ℕ) → s
 vars-to {t} {p} {ps} n e a = subst (λ (s : ℕ). Ahead t p (varsText s n ∷ ps)) e a
 
 pub guessed : {t v₀ v₁ v₂ : List ℕ} {a ic inx b oc onx vc vnx c n : ℕ} (w : List ℕ) → WellFormed w → t ≡ flatText w → 5124 ≤ length v₀
-  → (0 + 12 ≤ length t → a ≡ 0 + 12) → PortsReads t a 0 ic inx → (inx + 1 ≤ length t → b ≡ inx + 1) → PortsReads t b ic oc onx
-  → VarsReads t onx (ic + oc) vc vnx → (vnx + 6 ≤ length t → c ≡ vnx + 6)
-  → GatesRead t c v₀ n v₁
-  → v₂ ≡ sets v₁ 0 (ic ∷ oc ∷ ((ic + oc) + vc) ∷ n ∷ []) → v₂ ≡ sets v₀ 0 (records w)
+    → (0 + 12 ≤ length t → a ≡ 0 + 12) → PortsReads t a 0 ic inx → (inx + 1 ≤ length t → b ≡ inx + 1) → PortsReads t b ic oc onx
+    → VarsReads t onx (ic + oc) vc vnx → (vnx + 6 ≤ length t → c ≡ vnx + 6)
+    → GatesRead t c v₀ n v₁
+    → v₂ ≡ sets v₁ 0 (ic ∷ oc ∷ ((ic + oc) + vc) ∷ n ∷ []) → v₂ ≡ sets v₀ 0 (records w)
 unfolding records
 guessed {t} {v₀} {v₁} {v₂} {a} {ic} {inx} {b} {oc} {onx} {vc} {vnx} {c} {n} w wf e len fa fi fb fo fv fc fl fh =
     let a0 : Ahead t 0 (parts w (inputs w) (outputs w) (wires w) (gates w)) = record { inside = omega arith; rest = e ∙ sym (parts-of w refl refl refl refl) } in
@@ -192,3 +192,9 @@ guessed {t} {v₀} {v₁} {v₂} {a} {ic} {inx} {b} {oc} {onx} {vc} {vnx} {c} {n
     let lb : 4 + length (body w (gates w)) ≤ length v₀ = omega (arith, body-length w (gates w), wf .few-gates) in
     fh ∙ ap (λ (h : List ℕ). sets v₁ 0 h) eh ∙ ap (λ (v : List ℕ). sets v 0 (take 4 w)) (p .text ∙ ap (λ (x : List ℕ). sets v₀ 4 x) eb)
     ∙ over v₀ (take 4 w) (body w (gates w)) l4 lb ∙ ap (λ (x : List ℕ). sets v₀ 0 x) (sym (records-is w (gates w) (wf .records)))
+
+-- ---- for the code
+
+pub stored-at : {i p : ℕ} (t : List ℕ) (g : Gate) → p ≡ i
+  → Put t (4 + 5 * i) (recordOf g) (4 + 5 * (i + 1)) (set (set (set (set (set t (4 + 5 * p) (g .kind)) (4 + 5 * p + 1) (g .a)) (4 + 5 * p + 2) (g .b)) (4 + 5 * p + 3) (g .c)) (4 + 5 * p + 4) (g .out))
+stored-at {i} {p} t g e = rw e (stored t i (g .kind) (g .a) (g .b) (g .c) (g .out))

@@ -55,7 +55,7 @@ module _ {t : List ℕ} {p : ℕ} {ps : List (List ℕ)} (s k n : ℕ) (h : k �
 
   -- a w: one more entry
   pub ports-turn : {q r e : ℕ} → getD t p 0 ≡ 119 → e ≡ length (decimal (s + k)) → (p + (6 + e) ≤ length t → q ≡ p + (6 + e)) → After t q 44 r
-    → (k + 1 ≤ n) × Ahead t r (portsText (s + (k + 1)) (n - (k + 1)) ∷ ps)
+      → (k + 1 ≤ n) × Ahead t r (portsText (s + (k + 1)) (n - (k + 1)) ∷ ps)
   ports-turn {q} {r} {e} y fe fq fr = go (decLt k n)
     where
       go : Dec (k < n) → (k + 1 ≤ n) × Ahead t r (portsText (s + (k + 1)) (n - (k + 1)) ∷ ps)
@@ -85,7 +85,7 @@ module _ {t : List ℕ} {p : ℕ} {ps : List (List ℕ)} (s k n : ℕ) (h : k �
       go (no l) = let g : n ≤ k = omega arith in (omega arith, apart [] (vars-close s n k g) a)
 
   pub vars-turn : {r e : ℕ} → getD t p 0 ≡ 86 → e ≡ length (decimal (s + k)) → (p + (12 + e) ≤ length t → r ≡ p + (12 + e))
-    → (k + 1 ≤ n) × Ahead t r (varsText (s + (k + 1)) (n - (k + 1)) ∷ bytes "BEGIN\n" ∷ ps)
+      → (k + 1 ≤ n) × Ahead t r (varsText (s + (k + 1)) (n - (k + 1)) ∷ bytes "BEGIN\n" ∷ ps)
   vars-turn {r} {e} y fe fr = go (decLt k n)
     where
       go : Dec (k < n) → (k + 1 ≤ n) × Ahead t r (varsText (s + (k + 1)) (n - (k + 1)) ∷ bytes "BEGIN\n" ∷ ps)

@@ -66,7 +66,7 @@ take-most (suc zero) a b c = omega arith
 take-most (suc (suc zero)) a b c = omega arith
 take-most (suc (suc (suc n))) a b c = let e : length (take {A = ℕ} n []) ≡ 0 = ap length (take-nil {A = ℕ} n) in omega arith
 
-name-most : (k : ℕ) → length (primitive k .name) ≤ 7
+pub name-most : (k : ℕ) → length (primitive k .name) ≤ 7
 unfolding primitive
 name-most zero = omega arith
 name-most (suc zero) = omega arith
