@@ -196,5 +196,5 @@ guessed {t} {v₀} {v₁} {v₂} {a} {ic} {inx} {b} {oc} {onx} {vc} {vnx} {c} {n
 -- ---- for the code
 
 pub stored-at : {i p : ℕ} (t : List ℕ) (g : Gate) → p ≡ i
-  → Put t (4 + 5 * i) (recordOf g) (4 + 5 * (i + 1)) (set (set (set (set (set t (4 + 5 * p) (g .kind)) (4 + 5 * p + 1) (g .a)) (4 + 5 * p + 2) (g .b)) (4 + 5 * p + 3) (g .c)) (4 + 5 * p + 4) (g .out))
+    → Put t (4 + 5 * i) (recordOf g) (4 + 5 * (i + 1)) (set (set (set (set (set t (4 + 5 * p) (g .kind)) (4 + 5 * p + 1) (g .a)) (4 + 5 * p + 2) (g .b)) (4 + 5 * p + 3) (g .c)) (4 + 5 * p + 4) (g .out))
 stored-at {i} {p} t g e = rw e (stored t i (g .kind) (g .a) (g .b) (g .c) (g .out))

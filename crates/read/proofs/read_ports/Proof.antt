@@ -24,17 +24,19 @@ loop-holds : tie.Need-loop-holds Inv-loop μ-loop
 loop-holds c = (c .before .pre .0, omega arith, λ n ps h a. ports-start _ n a)
 
 returns : tie.Need-returns Inv-loop μ-loop
-returns c =
-    ((c .skip .ensures .0, omega arith),
-    λ n ps h a. let s = c .before .before .before .before .loop .inv .2 n ps h a in ports-stop _ _ n (s .0) (s .1) (λ e. c .before .if1 .taken (c .before .before .byte .ensures ∙ e)) (c .skip .ensures .1))
+returns c = (
+  (c .skip .ensures .0, omega arith),
+  λ n ps h a. let s = c .before .before .before .before .loop .inv .2 n ps h a in ports-stop _ _ n (s .0) (s .1) (λ e. c .before .if1 .taken (c .before .before .byte .ensures ∙ e)) (c .skip .ensures .1),
+)
 
 loop-again : tie.Need-loop-again Inv-loop μ-loop
-loop-again c =
-    (c .after .ensures .0,
-    omega arith,
-    λ n ps h a.
-    let s = c .before .before .before .before .before .before .loop .inv .2 n ps h a in
-    ports-turn _ _ n (s .0) (s .1) (sym (c .before .before .before .before .byte .ensures) ∙ c .before .before .before .if1 .left) (c .before .before .width .ensures .0) (c .before .skip2 .ensures .1) (c .after .ensures))
+loop-again c = (
+  c .after .ensures .0,
+  omega arith,
+  λ n ps h a.
+      let s = c .before .before .before .before .before .before .loop .inv .2 n ps h a in
+      ports-turn _ _ n (s .0) (s .1) (sym (c .before .before .before .before .byte .ensures) ∙ c .before .before .before .if1 .left) (c .before .before .width .ensures .0) (c .before .skip2 .ensures .1) (c .after .ensures),
+)
 
 returns-2 : tie.Need-returns-2 Inv-loop μ-loop
 returns-2 c = ((c .before .loop .inv .0, omega arith), λ n ps h a. absurd (omega (arith, c .before .loop .inv .2 n ps h a .0, c .loop-test .left)))

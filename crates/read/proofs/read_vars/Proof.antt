@@ -30,10 +30,11 @@ returns c =
     ((c .before .before .before .loop .inv .0, omega arith), λ n ps h a. let s = c .before .before .before .loop .inv .2 n ps h a in vars-stop _ _ n (s .0) (s .1) (λ e. c .if1 .taken (c .before .byte .ensures ∙ e)))
 
 loop-again : tie.Need-loop-again Inv-loop μ-loop
-loop-again c =
-    (c .skip .ensures .0,
-    omega arith,
-    λ n ps h a. let s = c .before .before .before .before .before .loop .inv .2 n ps h a in vars-turn _ _ n (s .0) (s .1) (sym (c .before .before .before .byte .ensures) ∙ c .before .before .if1 .left) (c .before .width .ensures .0) (c .skip .ensures .1))
+loop-again c = (
+  c .skip .ensures .0,
+  omega arith,
+  λ n ps h a. let s = c .before .before .before .before .before .loop .inv .2 n ps h a in vars-turn _ _ n (s .0) (s .1) (sym (c .before .before .before .byte .ensures) ∙ c .before .before .if1 .left) (c .before .width .ensures .0) (c .skip .ensures .1),
+)
 
 returns-2 : tie.Need-returns-2 Inv-loop μ-loop
 returns-2 c = ((c .before .loop .inv .0, omega arith), λ n ps h a. absurd (omega (arith, c .before .loop .inv .2 n ps h a .0, c .loop-test .left)))
