@@ -16,9 +16,9 @@ pub fn bytes(lent: &mut [u8])
 pub fn words(lent: &mut [u16])
     ensures { λ _. ⌜ now (lent .exit) ≡ zeros (length (now (lent .entry))) ⌝ }
 {
-    let mut i = 0;
-    while i < lent.len() {
-        lent[i] = 0;
-        i += 1;
+    let mut k = 0;
+    while k < lent.len() {
+        lent[k] = 0;
+        k += 1;
     }
 }

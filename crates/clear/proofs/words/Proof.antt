@@ -7,10 +7,10 @@ use Rattle.clear.proofs.words.Statement.{statement}
 use Rattle.clear.proofs.words.Tie as tie
 
 abbrev Inv-loop : tie.InvT-loop
-Inv-loop lent₀ i₀ lent i = Cleared lent₀ i lent
+Inv-loop lent₀ k₀ lent k = Cleared lent₀ k lent
 
 abbrev μ-loop : tie.MeasureT-loop
-μ-loop lent₀ i₀ lent i = length lent₀ - i
+μ-loop lent₀ k₀ lent k = length lent₀ - k
 
 loop-less : tie.Need-loop-less Inv-loop μ-loop
 loop-less c = omega (arith, c .before .loop .inv .long)
