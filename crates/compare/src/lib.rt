@@ -14,7 +14,7 @@ ghost use Rattle.compare.specs.Match.{Match};
 ghost use Rattle.compare.specs.Walk.{callOf, headOf};
 
 // A piece stands there, up to a place; or it does not.
-pub enum Seen {
+enum Seen {
     To(usize),
     Not,
 }

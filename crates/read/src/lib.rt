@@ -133,7 +133,7 @@ fn width(n: u16) -> usize
 }
 
 // A number and the place after it.
-pub struct Part {
+struct Part {
     pub value: u16,
     pub next: usize,
 }
@@ -187,7 +187,7 @@ fn kind_at(text: &[u8], at: usize) -> u16
 }
 
 // How many, and the place after them.
-pub struct Count {
+struct Count {
     pub count: u16,
     pub next: usize,
 }
@@ -231,7 +231,7 @@ fn read_vars(text: &[u8], at: usize, s: u16) -> Count
 }
 
 // A gate, and the place after it.
-pub struct Found {
+struct Found {
     pub gate: Gate,
     pub next: usize,
 }

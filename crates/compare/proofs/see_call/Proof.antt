@@ -5,13 +5,24 @@ use borrow.Author.Needs.{needs}
 use Rattle.compare.proofs.see_call.Tie as tie
 
 returns : tie.Need-returns
-returns c = stop (begin (c .before .before .before .before .args .text .now) (c .before .before .before .before .args .at) (callOf (c .before .before .before .before .args .kind)) (c .before .before .before .before .pre)) (c .before .before .see-name .ensures) (c .enum-told .given .1)
+returns c =
+    let start = c .before .before .before .before in
+    let w0 = begin (start .args .text .now) (start .args .at) (callOf (start .args .kind)) (start .pre) in
+    stop w0 (c .before .before .see-name .ensures) (c .enum-told .given .1)
 
 see-requires : tie.Need-see-requires
-see-requires c κs = (step (begin (c .before .before .before .before .before .before .args .text .now) (c .before .before .before .before .before .before .args .at) (callOf (c .before .before .before .before .before .before .args .kind)) (c .before .before .before .before .before .before .pre)) (c .before .before .before .before .see-name .ensures) (c .before .before .a .given .1)) .inside
+see-requires c κs =
+    let start = c .before .before .before .before .before .before in
+    let w0 = begin (start .args .text .now) (start .args .at) (callOf (start .args .kind)) (start .pre) in
+    let w1 = step w0 (c .before .before .before .before .see-name .ensures) (c .before .before .a .given .1) in
+    w1 .inside
 
 returns-2 : tie.Need-returns-2
-returns-2 c = last (step (begin (c .before .before .before .before .before .before .before .args .text .now) (c .before .before .before .before .before .before .before .args .at) (callOf (c .before .before .before .before .before .before .before .args .kind)) (c .before .before .before .before .before .before .before .pre)) (c .before .before .before .before .before .see-name .ensures) (c .before .before .before .a .given .1)) (c .see .ensures)
+returns-2 c =
+    let start = c .before .before .before .before .before .before .before in
+    let w0 = begin (start .args .text .now) (start .args .at) (callOf (start .args .kind)) (start .pre) in
+    let w1 = step w0 (c .before .before .before .before .before .see-name .ensures) (c .before .before .before .a .given .1) in
+    last w1 (c .see .ensures)
 
 pub see-call-spec : {M : Type 1} → statement M
 see-call-spec =

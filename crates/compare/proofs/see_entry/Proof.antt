@@ -8,15 +8,26 @@ use Rattle.compare.proofs.see_entry.Tie as tie
 
 returns : tie.Need-returns
 unfolding entryText
-returns c = stop (begin (c .before .before .before .before .args .text .now) (c .before .before .before .before .args .at) (wireText (c .before .before .before .before .args .wire) ∷ bytes ":WIRE" ∷ []) (c .before .before .before .before .pre .0)) (c .before .before .see-wire .ensures) (c .enum-told .given .1)
+returns c =
+    let start = c .before .before .before .before in
+    let w0 = begin (start .args .text .now) (start .args .at) (wireText (start .args .wire) ∷ bytes ":WIRE" ∷ []) (start .pre .0) in
+    stop w0 (c .before .before .see-wire .ensures) (c .enum-told .given .1)
 
 see-requires : tie.Need-see-requires
 unfolding entryText
-see-requires c κs = (step (begin (c .before .before .before .before .before .before .args .text .now) (c .before .before .before .before .before .before .args .at) (wireText (c .before .before .before .before .before .before .args .wire) ∷ bytes ":WIRE" ∷ []) (c .before .before .before .before .before .before .pre .0)) (c .before .before .before .before .see-wire .ensures) (c .before .before .a .given .1)) .inside
+see-requires c κs =
+    let start = c .before .before .before .before .before .before in
+    let w0 = begin (start .args .text .now) (start .args .at) (wireText (start .args .wire) ∷ bytes ":WIRE" ∷ []) (start .pre .0) in
+    let w1 = step w0 (c .before .before .before .before .see-wire .ensures) (c .before .before .a .given .1) in
+    w1 .inside
 
 returns-2 : tie.Need-returns-2
 unfolding entryText
-returns-2 c = last (step (begin (c .before .before .before .before .before .before .before .args .text .now) (c .before .before .before .before .before .before .before .args .at) (wireText (c .before .before .before .before .before .before .before .args .wire) ∷ bytes ":WIRE" ∷ []) (c .before .before .before .before .before .before .before .pre .0)) (c .before .before .before .before .before .see-wire .ensures) (c .before .before .before .a .given .1)) (c .see .ensures)
+returns-2 c =
+    let start = c .before .before .before .before .before .before .before in
+    let w0 = begin (start .args .text .now) (start .args .at) (wireText (start .args .wire) ∷ bytes ":WIRE" ∷ []) (start .pre .0) in
+    let w1 = step w0 (c .before .before .before .before .before .see-wire .ensures) (c .before .before .before .a .given .1) in
+    last w1 (c .see .ensures)
 
 pub see-entry-spec : {M : Type 1} → statement M
 see-entry-spec =

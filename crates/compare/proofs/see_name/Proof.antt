@@ -13,7 +13,9 @@ slice-aggregate-see : tie.Need-slice-aggregate-see
 slice-aggregate-see c = sym (length-take-le _ _ (letters-fit (c .before .before .before .before .args .kind) (c .before .before .name .ensures .0) (c .before .before .name .ensures .1)))
 
 returns : tie.Need-returns
-returns c = match-is (letters (c .before .before .before .before .before .args .kind) (c .before .before .before .name .ensures .0) (c .before .before .before .name .ensures .1)) (c .see .ensures)
+returns c =
+    let at-name = c .before .before .before in
+    match-is (letters (c .before .before .before .before .before .args .kind) (at-name .name .ensures .0) (at-name .name .ensures .1)) (c .see .ensures)
 
 pub see-name-spec : {M : Type 1} → statement M
 see-name-spec =

@@ -21,22 +21,35 @@ see-entry-requires : tie.Need-see-entry-requires Inv-loop μ-loop
 see-entry-requires c κs = (c .before .loop .inv .1 .inside, omega arith)
 
 returns : tie.Need-returns Inv-loop μ-loop
-returns c = stop (apart _ (ports-open _ _ _ (c .before .before .before .loop-test .taken)) (c .before .before .before .before .loop .inv .1)) (c .before .before .see-entry .ensures) (c .enum-told .given .1)
+returns c =
+    let w0 = apart _ (ports-open _ _ _ (c .before .before .before .loop-test .taken)) (c .before .before .before .before .loop .inv .1) in
+    stop w0 (c .before .before .see-entry .ensures) (c .enum-told .given .1)
 
 see-between-requires : tie.Need-see-between-requires Inv-loop μ-loop
-see-between-requires c κs = (step (apart _ (ports-open _ _ _ (c .before .before .before .before .loop-test .taken)) (c .before .before .before .before .before .loop .inv .1)) (c .before .before .before .see-entry .ensures) (c .before .a .given .1)) .inside
+see-between-requires c κs =
+    let w0 = apart _ (ports-open _ _ _ (c .before .before .before .before .loop-test .taken)) (c .before .before .before .before .before .loop .inv .1) in
+    let w1 = step w0 (c .before .before .before .see-entry .ensures) (c .before .a .given .1) in
+    w1 .inside
 
 returns-2 : tie.Need-returns-2 Inv-loop μ-loop
-returns-2 c = stop (step (apart _ (ports-open _ _ _ (c .before .before .before .before .before .before .before .loop-test .taken)) (c .before .before .before .before .before .before .before .before .loop .inv .1)) (c .before .before .before .before .before .before .see-entry .ensures) (c .before .before .before .before .a .given .1)) (c .before .before .see-between .ensures) (c .enum-told2 .given .1)
+returns-2 c =
+    let w0 = apart _ (ports-open _ _ _ (c .before .before .before .before .before .before .before .loop-test .taken)) (c .before .before .before .before .before .before .before .before .loop .inv .1) in
+    let w1 = step w0 (c .before .before .before .before .before .before .see-entry .ensures) (c .before .before .before .before .a .given .1) in
+    stop w1 (c .before .before .see-between .ensures) (c .enum-told2 .given .1)
 
 loop-again : tie.Need-loop-again Inv-loop μ-loop
-loop-again c = (omega arith, step (step (apart _ (ports-open _ _ _ (c .before .before .before .before .before .before .before .before .loop-test .taken)) (c .before .before .before .before .before .before .before .before .before .loop .inv .1)) (c .before .before .before .before .before .before .before .see-entry .ensures) (c .before .before .before .before .before .a .given .1)) (c .before .before .before .see-between .ensures) (c .before .b .given .1))
+loop-again c =
+    let w0 = apart _ (ports-open _ _ _ (c .before .before .before .before .before .before .before .before .loop-test .taken)) (c .before .before .before .before .before .before .before .before .before .loop .inv .1) in
+    let w1 = step w0 (c .before .before .before .before .before .before .before .see-entry .ensures) (c .before .before .before .before .before .a .given .1) in
+    (omega arith, step w1 (c .before .before .before .see-between .ensures) (c .before .b .given .1))
 
 see-requires : tie.Need-see-requires Inv-loop μ-loop
 see-requires c κs = c .before .before .loop .inv .1 .inside
 
 returns-3 : tie.Need-returns-3 Inv-loop μ-loop
-returns-3 c = last (piece-is (ports-close _ _ _ (c .before .before .loop-test .left)) (c .before .before .before .loop .inv .1)) (c .see .ensures)
+returns-3 c =
+    let end = piece-is (ports-close _ _ _ (c .before .before .loop-test .left)) (c .before .before .before .loop .inv .1) in
+    last end (c .see .ensures)
 
 pub see-ports-spec : {M : Type 1} → statement M
 see-ports-spec =

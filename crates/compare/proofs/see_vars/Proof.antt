@@ -21,22 +21,42 @@ see-requires : tie.Need-see-requires Inv-loop μ-loop
 see-requires c κs = c .before .before .loop .inv .1 .inside
 
 returns : tie.Need-returns Inv-loop μ-loop
-returns c = stop (apart _ (vars-open _ _ _ (c .before .before .before .before .loop-test .taken)) (c .before .before .before .before .before .loop .inv .1)) (c .before .before .see .ensures) (c .enum-told .given .1)
+returns c =
+    let w0 = apart _ (vars-open _ _ _ (c .before .before .before .before .loop-test .taken)) (c .before .before .before .before .before .loop .inv .1) in
+    stop w0 (c .before .before .see .ensures) (c .enum-told .given .1)
 
 see-entry-requires : tie.Need-see-entry-requires Inv-loop μ-loop
-see-entry-requires c κs = ((step (apart _ (vars-open _ _ _ (c .before .before .before .before .before .loop-test .taken)) (c .before .before .before .before .before .before .loop .inv .1)) (c .before .before .before .see .ensures) (c .before .a .given .1)) .inside, omega arith)
+see-entry-requires c κs =
+    let w0 = apart _ (vars-open _ _ _ (c .before .before .before .before .before .loop-test .taken)) (c .before .before .before .before .before .before .loop .inv .1) in
+    let w1 = step w0 (c .before .before .before .see .ensures) (c .before .a .given .1) in
+    (w1 .inside, omega arith)
 
 returns-2 : tie.Need-returns-2 Inv-loop μ-loop
-returns-2 c = stop (step (apart _ (vars-open _ _ _ (c .before .before .before .before .before .before .before .before .loop-test .taken)) (c .before .before .before .before .before .before .before .before .before .loop .inv .1)) (c .before .before .before .before .before .before .see .ensures) (c .before .before .before .before .a .given .1)) (c .before .before .see-entry .ensures) (c .enum-told2 .given .1)
+returns-2 c =
+    let w0 = apart _ (vars-open _ _ _ (c .before .before .before .before .before .before .before .before .loop-test .taken)) (c .before .before .before .before .before .before .before .before .before .loop .inv .1) in
+    let w1 = step w0 (c .before .before .before .before .before .before .see .ensures) (c .before .before .before .before .a .given .1) in
+    stop w1 (c .before .before .see-entry .ensures) (c .enum-told2 .given .1)
 
 see-requires-2 : tie.Need-see-requires-2 Inv-loop μ-loop
-see-requires-2 c κs = (step (step (apart _ (vars-open _ _ _ (c .before .before .before .before .before .before .before .before .before .before .loop-test .taken)) (c .before .before .before .before .before .before .before .before .before .before .before .loop .inv .1)) (c .before .before .before .before .before .before .before .before .see .ensures) (c .before .before .before .before .before .before .a .given .1)) (c .before .before .before .before .see-entry .ensures) (c .before .before .b .given .1)) .inside
+see-requires-2 c κs =
+    let w0 = apart _ (vars-open _ _ _ (c .before .before .before .before .before .before .before .before .before .before .loop-test .taken)) (c .before .before .before .before .before .before .before .before .before .before .before .loop .inv .1) in
+    let w1 = step w0 (c .before .before .before .before .before .before .before .before .see .ensures) (c .before .before .before .before .before .before .a .given .1) in
+    let w2 = step w1 (c .before .before .before .before .see-entry .ensures) (c .before .before .b .given .1) in
+    w2 .inside
 
 returns-3 : tie.Need-returns-3 Inv-loop μ-loop
-returns-3 c = stop (step (step (apart _ (vars-open _ _ _ (c .before .before .before .before .before .before .before .before .before .before .before .before .before .loop-test .taken)) (c .before .before .before .before .before .before .before .before .before .before .before .before .before .before .loop .inv .1)) (c .before .before .before .before .before .before .before .before .before .before .before .see .ensures) (c .before .before .before .before .before .before .before .before .before .a .given .1)) (c .before .before .before .before .before .before .before .see-entry .ensures) (c .before .before .before .before .before .b .given .1)) (c .before .before .see2 .ensures) (c .enum-told3 .given .1)
+returns-3 c =
+    let w0 = apart _ (vars-open _ _ _ (c .before .before .before .before .before .before .before .before .before .before .before .before .before .loop-test .taken)) (c .before .before .before .before .before .before .before .before .before .before .before .before .before .before .loop .inv .1) in
+    let w1 = step w0 (c .before .before .before .before .before .before .before .before .before .before .before .see .ensures) (c .before .before .before .before .before .before .before .before .before .a .given .1) in
+    let w2 = step w1 (c .before .before .before .before .before .before .before .see-entry .ensures) (c .before .before .before .before .before .b .given .1) in
+    stop w2 (c .before .before .see2 .ensures) (c .enum-told3 .given .1)
 
 loop-again : tie.Need-loop-again Inv-loop μ-loop
-loop-again c = (omega arith, step (step (step (apart _ (vars-open _ _ _ (c .before .before .before .before .before .before .before .before .before .before .before .before .before .before .loop-test .taken)) (c .before .before .before .before .before .before .before .before .before .before .before .before .before .before .before .loop .inv .1)) (c .before .before .before .before .before .before .before .before .before .before .before .before .see .ensures) (c .before .before .before .before .before .before .before .before .before .before .a .given .1)) (c .before .before .before .before .before .before .before .before .see-entry .ensures) (c .before .before .before .before .before .before .b .given .1)) (c .before .before .before .see2 .ensures) (c .before .c .given .1))
+loop-again c =
+    let w0 = apart _ (vars-open _ _ _ (c .before .before .before .before .before .before .before .before .before .before .before .before .before .before .loop-test .taken)) (c .before .before .before .before .before .before .before .before .before .before .before .before .before .before .before .loop .inv .1) in
+    let w1 = step w0 (c .before .before .before .before .before .before .before .before .before .before .before .before .see .ensures) (c .before .before .before .before .before .before .before .before .before .before .a .given .1) in
+    let w2 = step w1 (c .before .before .before .before .before .before .before .before .see-entry .ensures) (c .before .before .before .before .before .before .b .given .1) in
+    (omega arith, step w2 (c .before .before .before .see2 .ensures) (c .before .c .given .1))
 
 returns-4 : tie.Need-returns-4 Inv-loop μ-loop
 returns-4 c = finish (apart [] (vars-close _ _ _ (c .loop-test .left)) (c .before .loop .inv .1))

@@ -8,15 +8,26 @@ use Rattle.compare.proofs.see_wire.Tie as tie
 
 returns : tie.Need-returns
 unfolding wireText
-returns c = stop (begin (c .before .before .before .before .before .args .text .now) (c .before .before .before .before .before .args .at) (bytes "w" ∷ decimal (c .before .before .before .before .before .args .wire) ∷ []) (c .before .before .before .before .before .pre .0)) (c .before .before .see .ensures) (c .enum-told .given .1)
+returns c =
+    let start = c .before .before .before .before .before in
+    let w0 = begin (start .args .text .now) (start .args .at) (bytes "w" ∷ decimal (start .args .wire) ∷ []) (start .pre .0) in
+    stop w0 (c .before .before .see .ensures) (c .enum-told .given .1)
 
 see-number-requires : tie.Need-see-number-requires
 unfolding wireText
-see-number-requires c κs = ((step (begin (c .before .before .before .before .before .before .args .text .now) (c .before .before .before .before .before .before .args .at) (bytes "w" ∷ decimal (c .before .before .before .before .before .before .args .wire) ∷ []) (c .before .before .before .before .before .before .pre .0)) (c .before .before .before .see .ensures) (c .before .a .given .1)) .inside, c .before .before .before .before .before .before .pre .1)
+see-number-requires c κs =
+    let start = c .before .before .before .before .before .before in
+    let w0 = begin (start .args .text .now) (start .args .at) (bytes "w" ∷ decimal (start .args .wire) ∷ []) (start .pre .0) in
+    let w1 = step w0 (c .before .before .before .see .ensures) (c .before .a .given .1) in
+    (w1 .inside, start .pre .1)
 
 returns-2 : tie.Need-returns-2
 unfolding wireText
-returns-2 c = last (step (begin (c .before .before .before .before .before .before .before .args .text .now) (c .before .before .before .before .before .before .before .args .at) (bytes "w" ∷ decimal (c .before .before .before .before .before .before .before .args .wire) ∷ []) (c .before .before .before .before .before .before .before .pre .0)) (c .before .before .before .before .see .ensures) (c .before .before .a .given .1)) (c .see-number .ensures)
+returns-2 c =
+    let start = c .before .before .before .before .before .before .before in
+    let w0 = begin (start .args .text .now) (start .args .at) (bytes "w" ∷ decimal (start .args .wire) ∷ []) (start .pre .0) in
+    let w1 = step w0 (c .before .before .before .before .see .ensures) (c .before .before .a .given .1) in
+    last w1 (c .see-number .ensures)
 
 pub see-wire-spec : {M : Type 1} → statement M
 see-wire-spec =

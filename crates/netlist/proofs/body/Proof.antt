@@ -35,12 +35,15 @@ array-write-marks : tie.Need-array-write-marks Inv-loop μ-loop
 array-write-marks c = omega (arith, c .before .wide .ensures, c .before .before .before .before .before .before .before .before .word2 .ensures, holds (c .before .before .before .fine .ensures) (not-false _ (c .before .before .if1 .left)) .out, c .before .before .before .before .before .before .before .before .before .before .before .pre .few-wires, c .before .before .before .before .before .before .loop .inv .1 .size)
 
 loop-again : tie.Need-loop-again Inv-loop μ-loop
-loop-again c = (
-  omega (arith, c .before .before .before .before .before .loop-test .taken),
-  marked-more _ _ _ _ (c .before .before .before .before .before .before .loop .inv .1) (fine-is (c .before .before .before .before .before .before .before .before .word2 .ensures) (c .before .before .before .before .before .before .before .before .before .word .ensures) (c .before .before .before .before .gate-at .ensures) (holds (c .before .before .before .fine .ensures) (not-false _ (c .before .before .if1 .left))))
-      (c .before .wide .ensures .0 ∙ ap (λ (g : Gate). g .out) (c .before .before .before .before .gate-at .ensures))
-      (omega (arith, c .before .wide .ensures, c .before .before .before .before .before .before .before .before .word2 .ensures, holds (c .before .before .before .fine .ensures) (not-false _ (c .before .before .if1 .left)) .out, c .before .before .before .before .before .before .before .before .before .before .before .pre .few-wires)) (c .if2 .left),
-)
+loop-again c =
+    let at-fine = c .before .before .before in
+    let at-gate-at = c .before .before .before .before in
+    let at-word2 = c .before .before .before .before .before .before .before .before in (
+      omega (arith, c .before .before .before .before .before .loop-test .taken),
+      marked-more _ _ _ _ (c .before .before .before .before .before .before .loop .inv .1) (fine-is (at-word2 .word2 .ensures) (c .before .before .before .before .before .before .before .before .before .word .ensures) (at-gate-at .gate-at .ensures) (holds (at-fine .fine .ensures) (not-false _ (c .before .before .if1 .left))))
+          (c .before .wide .ensures .0 ∙ ap (λ (g : Gate). g .out) (at-gate-at .gate-at .ensures))
+          (omega (arith, c .before .wide .ensures, at-word2 .word2 .ensures, holds (at-fine .fine .ensures) (not-false _ (c .before .before .if1 .left)) .out, c .before .before .before .before .before .before .before .before .before .before .before .pre .few-wires)) (c .if2 .left),
+    )
 
 returns-3 : tie.Need-returns-3 Inv-loop μ-loop
 returns-3 c = so (all-marked _ _ _ (c .before .loop .inv .1) (omega (arith, c .before .before .word3 .ensures, c .loop-test .left)))

@@ -25,12 +25,13 @@ returns-6 c = not-so (λ f. omega (arith, f .free))
 
 returns-7 : tie.Need-returns-7
 returns-7 c =
+    let at-inputs = c .before .before .before .before .before .before .before .before .before .before in
     so
     (record {
       kind = omega arith;
-      a = rw (← (c .before .before .before .before .before .before .before .before .before .before .inputs .ensures)) (holds (c .before .before .before .before .before .before .before .before .before .slot .ensures) (not-false _ (c .before .before .before .before .before .before .before .before .if2 .left)));
-      b = rw (← (c .before .before .before .before .before .before .before .before .before .before .inputs .ensures)) (holds (c .before .before .before .before .before .before .before .slot2 .ensures) (not-false _ (c .before .before .before .before .before .before .if3 .left)));
-      c = rw (← (c .before .before .before .before .before .before .before .before .before .before .inputs .ensures)) (holds (c .before .before .before .before .before .slot3 .ensures) (not-false _ (c .before .before .before .before .if4 .left)));
+      a = rw (← (at-inputs .inputs .ensures)) (holds (c .before .before .before .before .before .before .before .before .before .slot .ensures) (not-false _ (c .before .before .before .before .before .before .before .before .if2 .left)));
+      b = rw (← (at-inputs .inputs .ensures)) (holds (c .before .before .before .before .before .before .before .slot2 .ensures) (not-false _ (c .before .before .before .before .before .before .if3 .left)));
+      c = rw (← (at-inputs .inputs .ensures)) (holds (c .before .before .before .before .before .slot3 .ensures) (not-false _ (c .before .before .before .before .if4 .left)));
       out = omega arith;
       free = omega arith;
     })

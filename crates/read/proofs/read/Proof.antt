@@ -14,7 +14,9 @@ same-length c = c .before .before .before .words .kept .0
 
 returns : tie.Need-returns
 unfolding told
-returns c = read-short (c .before .before .before .words .ensures) (omega (arith, c .before .before .before .words .kept .0))
+returns c =
+    let at-words = c .before .before .before in
+    read-short (at-words .words .ensures) (omega (arith, at-words .words .kept .0))
 
 same-length-2 : tie.Need-same-length-2
 same-length-2 c = c .before .before .words2 .kept .0 ∙ c .before .before .before .before .before .before .before .before .before .guess .kept .1 .0 ∙ c .before .before .before .before .before .before .before .before .before .before .before .before .before .before .words .kept .0
@@ -22,7 +24,10 @@ same-length-2 c = c .before .before .words2 .kept .0 ∙ c .before .before .befo
 returns-2 : tie.Need-returns-2
 unfolding told
 returns-2 c =
-    read-none (omega (arith, c .before .before .before .before .before .before .before .before .before .before .before .before .before .before .words .kept .0, c .before .before .before .before .before .before .before .before .before .before .before .if1 .left)) (c .before .before .before .before .before .before .before .before .before .before .before .before .before .before .words .ensures) (c .before .before .before .before .before .before .before .before .before .guess .ensures) (c .before .before .words2 .ensures ∙ ap zeros (c .before .before .before .before .before .before .before .before .before .guess .kept .1 .0 ∙ c .before .before .before .before .before .before .before .before .before .before .before .before .before .before .words .kept .0))
+    let at-guess = c .before .before .before .before .before .before .before .before .before in
+    let at-words = c .before .before .before .before .before .before .before .before .before .before .before .before .before .before in
+    let enough = omega (arith, at-words .words .kept .0, c .before .before .before .before .before .before .before .before .before .before .before .if1 .left) in
+    read-none enough (at-words .words .ensures) (at-guess .guess .ensures) (c .before .before .words2 .ensures ∙ ap zeros (at-guess .guess .kept .1 .0 ∙ at-words .words .kept .0))
     (fails (c .before .before .before .before .before .written-as .ensures) (not-true _ (c .before .before .before .before .if2 .taken)))
 
 same-length-3 : tie.Need-same-length-3
@@ -30,7 +35,10 @@ same-length-3 c = c .before .before .before .before .before .guess .kept .1 .0 �
 
 returns-3 : tie.Need-returns-3
 unfolding told
-returns-3 c = read-done (omega (arith, c .before .before .before .before .before .before .before .before .before .before .words .kept .0, c .before .before .before .before .before .before .before .if1 .left)) (c .before .before .before .before .before .before .before .before .before .before .words .ensures) (c .before .before .before .before .before .guess .ensures) (holds (c .before .written-as .ensures) (not-false _ (c .if2 .left)))
+returns-3 c =
+    let at-words = c .before .before .before .before .before .before .before .before .before .before in
+    let enough = omega (arith, at-words .words .kept .0, c .before .before .before .before .before .before .before .if1 .left) in
+    read-done enough (at-words .words .ensures) (c .before .before .before .before .before .guess .ensures) (holds (c .before .written-as .ensures) (not-false _ (c .if2 .left)))
 
 pub read-spec : {M : Type 1} → statement M
 read-spec =

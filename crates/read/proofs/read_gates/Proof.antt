@@ -41,13 +41,15 @@ skip-requires : tie.Need-skip-requires Inv-loop μ-loop
 skip-requires c κs = c .after .ensures .0
 
 loop-again : tie.Need-loop-again Inv-loop μ-loop
-loop-again c = (
-  c .before .before .before .before .put-record .kept .0 ∙ c .before .before .before .before .before .before .before .before .before .before .loop .inv .0,
-  c .skip .ensures .0,
-  omega arith,
-  λ w wf a.
-      got-more wf (c .before .before .before .before .before .before .before .before .before .before .loop .inv .3 w wf a) (λ e. c .before .before .before .before .before .before .before .if1 .left (c .before .before .before .before .before .before .before .before .byte .ensures ∙ e)) (c .before .before .before .before .before .before .read-gate .ensures .1) (c .before .before .before .before .put-record .ensures) (c .before .after .ensures) (c .skip .ensures .1),
-)
+loop-again c =
+    let at-put-record = c .before .before .before .before in
+    let at-loop = c .before .before .before .before .before .before .before .before .before .before in (
+      at-put-record .put-record .kept .0 ∙ at-loop .loop .inv .0,
+      c .skip .ensures .0,
+      omega arith,
+      λ w wf a.
+          got-more wf (at-loop .loop .inv .3 w wf a) (λ e. c .before .before .before .before .before .before .before .if1 .left (c .before .before .before .before .before .before .before .before .byte .ensures ∙ e)) (c .before .before .before .before .before .before .read-gate .ensures .1) (at-put-record .put-record .ensures) (c .before .after .ensures) (c .skip .ensures .1),
+    )
 
 same-length-2 : tie.Need-same-length-2 Inv-loop μ-loop
 same-length-2 c = c .before .loop .inv .0

@@ -27,7 +27,8 @@ loop-holds c = (c .before .pre .0, omega arith, λ n ps h a. vars-start _ n a)
 
 returns : tie.Need-returns Inv-loop μ-loop
 returns c =
-    ((c .before .before .before .loop .inv .0, omega arith), λ n ps h a. let s = c .before .before .before .loop .inv .2 n ps h a in vars-stop _ _ n (s .0) (s .1) (λ e. c .if1 .taken (c .before .byte .ensures ∙ e)))
+    let at-loop = c .before .before .before in
+    ((at-loop .loop .inv .0, omega arith), λ n ps h a. let s = at-loop .loop .inv .2 n ps h a in vars-stop _ _ n (s .0) (s .1) (λ e. c .if1 .taken (c .before .byte .ensures ∙ e)))
 
 loop-again : tie.Need-loop-again Inv-loop μ-loop
 loop-again c = (

@@ -10,13 +10,22 @@ returns : tie.Need-returns
 returns c = (value-is (omega arith) (one (fails (c .before .is-digit .ensures) (not-true _ (c .if1 .taken)))), omega arith)
 
 returns-2 : tie.Need-returns-2
-returns-2 c = (value-is (omega arith) (two (holds (c .before .before .before .before .before .is-digit .ensures) (not-false _ (c .before .before .before .before .if1 .left))) (fails (c .before .is-digit2 .ensures) (not-true _ (c .if2 .taken)))), omega arith)
+returns-2 c =
+    let second = holds (c .before .before .before .before .before .is-digit .ensures) (not-false _ (c .before .before .before .before .if1 .left)) in
+    (value-is (omega arith) (two second (fails (c .before .is-digit2 .ensures) (not-true _ (c .if2 .taken)))), omega arith)
 
 returns-3 : tie.Need-returns-3
-returns-3 c = (value-is (omega arith) (three (holds (c .before .before .before .before .before .before .before .before .before .is-digit .ensures) (not-false _ (c .before .before .before .before .before .before .before .before .if1 .left))) (holds (c .before .before .before .before .before .is-digit2 .ensures) (not-false _ (c .before .before .before .before .if2 .left))) (fails (c .before .is-digit3 .ensures) (not-true _ (c .if3 .taken)))), omega arith)
+returns-3 c =
+    let second = holds (c .before .before .before .before .before .before .before .before .before .is-digit .ensures) (not-false _ (c .before .before .before .before .before .before .before .before .if1 .left)) in
+    let third = holds (c .before .before .before .before .before .is-digit2 .ensures) (not-false _ (c .before .before .before .before .if2 .left)) in
+    (value-is (omega arith) (three second third (fails (c .before .is-digit3 .ensures) (not-true _ (c .if3 .taken)))), omega arith)
 
 returns-4 : tie.Need-returns-4
-returns-4 c = (value-is (omega arith) (four (holds (c .before .before .before .before .before .before .before .before .before .before .before .is-digit .ensures) (not-false _ (c .before .before .before .before .before .before .before .before .before .before .if1 .left))) (holds (c .before .before .before .before .before .before .before .is-digit2 .ensures) (not-false _ (c .before .before .before .before .before .before .if2 .left))) (holds (c .before .before .before .is-digit3 .ensures) (not-false _ (c .before .before .if3 .left)))), omega arith)
+returns-4 c =
+    let second = holds (c .before .before .before .before .before .before .before .before .before .before .before .is-digit .ensures) (not-false _ (c .before .before .before .before .before .before .before .before .before .before .if1 .left)) in
+    let third = holds (c .before .before .before .before .before .before .before .is-digit2 .ensures) (not-false _ (c .before .before .before .before .before .before .if2 .left)) in
+    let fourth = holds (c .before .before .before .is-digit3 .ensures) (not-false _ (c .before .before .if3 .left)) in
+    (value-is (omega arith) (four second third fourth), omega arith)
 
 pub value-spec : {M : Type 1} → statement M
 value-spec =

@@ -17,23 +17,27 @@ loop-holds : tie.Need-loop-holds Inv-loop μ-loop
 loop-holds c = (refl, omega arith, begun-none _ _ (c .before .before .before .before .before .pre .1 .1))
 
 slice-write-values : tie.Need-slice-write-values Inv-loop μ-loop
-slice-write-values c = omega (arith, c .before .before .loop .inv .0, c .before .before .before .wide .ensures, c .before .before .before .before .word .ensures, c .before .before .before .before .before .before .before .before .pre .0 .few-wires, c .before .before .before .before .before .before .before .before .pre .1 .0)
+slice-write-values c =
+    let start = c .before .before .before .before .before .before .before .before in
+    omega (arith, c .before .before .loop .inv .0, c .before .before .before .wide .ensures, c .before .before .before .before .word .ensures, start .pre .0 .few-wires, start .pre .1 .0)
 
 loop-again : tie.Need-loop-again Inv-loop μ-loop
-loop-again c = (
-  simp length-set (c .before .before .loop .inv .0),
-  omega arith,
-  begun-more _ _ _ _ (omega (arith, c .before .before .loop .inv .0, c .before .before .before .wide .ensures, c .before .before .before .before .word .ensures, c .before .before .before .before .before .before .before .before .pre .0 .few-wires, c .before .before .before .before .before .before .before .before .pre .1 .0)) (c .first .ensures) (c .before .before .loop .inv .2),
-)
+loop-again c =
+    let start = c .before .before .before .before .before .before .before .before in (
+      simp length-set (c .before .before .loop .inv .0),
+      omega arith,
+      begun-more _ _ _ _ (omega (arith, c .before .before .loop .inv .0, c .before .before .before .wide .ensures, c .before .before .before .before .word .ensures, start .pre .0 .few-wires, start .pre .1 .0)) (c .first .ensures) (c .before .before .loop .inv .2),
+    )
 
 same-length : tie.Need-same-length Inv-loop μ-loop
 same-length c = c .before .loop .inv .0
 
 returns : tie.Need-returns Inv-loop μ-loop
-returns c = (
-  λ i h. c .before .loop .inv .2 .first i (omega (arith, c .before .before .wide .ensures, c .before .before .before .word .ensures)),
-  λ i h. c .before .loop .inv .2 .zero i (omega (arith, c .before .before .wide .ensures, c .before .before .before .word .ensures)),
-)
+returns c =
+    let at-word = c .before .before .before in (
+      λ i h. c .before .loop .inv .2 .first i (omega (arith, c .before .before .wide .ensures, at-word .word .ensures)),
+      λ i h. c .before .loop .inv .2 .zero i (omega (arith, c .before .before .wide .ensures, at-word .word .ensures)),
+    )
 
 pub start-spec : {M : Type 1} → statement M
 start-spec =

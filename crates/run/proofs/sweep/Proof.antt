@@ -26,19 +26,26 @@ loop-holds : tie.Need-loop-holds Inv-loop μ-loop
 loop-holds c = (refl, omega arith, λ ins ok g. (g, same (λ j h. absurd (omega arith))))
 
 visit-requires : tie.Need-visit-requires Inv-loop μ-loop
-visit-requires c κs = (c .before .before .before .before .before .before .pre .0, (omega (arith, c .before .before .loop .inv .0, c .before .before .before .before .before .before .pre .1), omega (arith, c .before .before .before .word .ensures, c .before .loop-test .taken)))
+visit-requires c κs =
+    let start = c .before .before .before .before .before .before in
+    (start .pre .0, (omega (arith, c .before .before .loop .inv .0, start .pre .1), omega (arith, c .before .before .before .word .ensures, c .before .loop-test .taken)))
 
 loop-again : tie.Need-loop-again Inv-loop μ-loop
-loop-again c = (
-  c .before .before .before .visit .kept .1 .0 ∙ c .before .before .before .before .before .before .loop .inv .0,
-  omega arith,
-  λ ins ok g0.
-      let s = c .before .before .before .before .before .before .loop .inv .2 ins ok g0 in (
-        visited _ (c .before .before .before .before .before .before .before .before .before .before .pre .0) ins ok (omega (arith, c .before .before .before .before .before .before .loop .inv .0, c .before .before .before .before .before .before .before .before .before .before .pre .1)) (omega (arith, c .before .before .before .before .before .before .before .word .ensures, c .before .before .before .before .before .loop-test .taken)) (s .0) (c .before .before .before .visit .ensures),
-        sweep-is refl (c .either .ensures)
-            (sweep-more _ (c .before .before .before .before .before .before .before .before .before .before .pre .0) ins ok (omega (arith, c .before .before .before .before .before .before .loop .inv .0, c .before .before .before .before .before .before .before .before .before .before .pre .1)) (omega (arith, c .before .before .before .before .before .before .before .word .ensures, c .before .before .before .before .before .loop-test .taken)) (s .1) (c .before .before .before .visit .ensures)),
-      ),
-)
+loop-again c =
+    let at-visit = c .before .before .before in
+    let at-loop-test = c .before .before .before .before .before in
+    let at-loop = c .before .before .before .before .before .before in
+    let at-word = c .before .before .before .before .before .before .before in
+    let start = c .before .before .before .before .before .before .before .before .before .before in (
+      at-visit .visit .kept .1 .0 ∙ at-loop .loop .inv .0,
+      omega arith,
+      λ ins ok g0.
+          let s = at-loop .loop .inv .2 ins ok g0 in (
+            visited _ (start .pre .0) ins ok (omega (arith, at-loop .loop .inv .0, start .pre .1)) (omega (arith, at-word .word .ensures, at-loop-test .loop-test .taken)) (s .0) (at-visit .visit .ensures),
+            sweep-is refl (c .either .ensures)
+                (sweep-more _ (start .pre .0) ins ok (omega (arith, at-loop .loop .inv .0, start .pre .1)) (omega (arith, at-word .word .ensures, at-loop-test .loop-test .taken)) (s .1) (at-visit .visit .ensures)),
+          ),
+    )
 
 same-length : tie.Need-same-length Inv-loop μ-loop
 same-length c = c .before .loop .inv .0

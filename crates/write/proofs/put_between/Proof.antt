@@ -11,7 +11,9 @@ returns : tie.Need-returns
 returns c = put-is (sym (between-none _ _ (c .if1 .taken))) put-none
 
 put-requires : tie.Need-put-requires
-put-requires c κs = omega (arith, between-room (c .before .before .before .args .b) (c .before .before .before .args .more) (c .before .if1 .left), c .before .before .before .pre)
+put-requires c κs =
+    let start = c .before .before .before in
+    omega (arith, between-room (start .args .b) (start .args .more) (c .before .if1 .left), start .pre)
 
 returns-2 : tie.Need-returns-2
 returns-2 c = put-is (sym (between-some _ _ (c .before .before .before .before .if1 .left))) (c .before .before .put .ensures)

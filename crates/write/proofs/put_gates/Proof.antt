@@ -17,25 +17,51 @@ abbrev μ-loop : tie.MeasureT-loop
 μ-loop net text₀ at n p₀ i₀ text p i = n - i
 
 loop-holds : tie.Need-loop-holds Inv-loop μ-loop
-loop-holds c = (refl, omega arith, piece-is (gates-begin _ _) (begin-one (c .before .before .before .args .text .now) (c .before .before .before .args .at) _ (room-as _ _ (ap (gatesText (c .before .before .before .args .net .now) 0) (c .word .ensures)) (c .before .before .before .pre .1))))
+loop-holds c =
+    let start = c .before .before .before in
+    let count = ap (gatesText (start .args .net .now) 0) (c .word .ensures) in
+    (refl, omega arith, piece-is (gates-begin _ _) (begin-one (start .args .text .now) (start .args .at) _ (room-as _ _ count (start .pre .1))))
 
 put-gate-requires : tie.Need-put-gate-requires Inv-loop μ-loop
-put-gate-requires c κs = (fine-as (c .before .before .before .before .before .before .before .pre .0) (omega (arith, c .before .before .before .before .word .ensures, c .before .before .loop-test .taken)) (c .before .gate-at .ensures), room-as _ _ (ap gateText (c .before .gate-at .ensures)) (room-of (apart _ (gates-open (c .before .before .before .before .before .before .before .args .net .now) _ _ (c .before .before .loop-test .taken)) (c .before .before .before .loop .inv .2))))
+put-gate-requires c κs =
+    let start = c .before .before .before .before .before .before .before in
+    let gate = ap gateText (c .before .gate-at .ensures) in
+    let w0 = apart _ (gates-open (start .args .net .now) _ _ (c .before .before .loop-test .taken)) (c .before .before .before .loop .inv .2) in
+    (fine-as (start .pre .0) (omega (arith, c .before .before .before .before .word .ensures, c .before .before .loop-test .taken)) (c .before .gate-at .ensures), room-as _ _ gate (room-of w0))
 
 put-between-requires : tie.Need-put-between-requires Inv-loop μ-loop
-put-between-requires c κs = room-of (step (apart _ (gates-open (c .before .before .before .before .before .before .before .before .before .before .before .args .net .now) _ _ (c .before .before .before .before .before .before .loop-test .taken)) (c .before .before .before .before .before .before .before .loop .inv .2)) (put-is (ap gateText (c .before .before .before .before .before .gate-at .ensures)) (c .before .before .before .put-gate .ensures)))
+put-between-requires c κs =
+    let w0 = apart _ (gates-open (c .before .before .before .before .before .before .before .before .before .before .before .args .net .now) _ _ (c .before .before .before .before .before .before .loop-test .taken)) (c .before .before .before .before .before .before .before .loop .inv .2) in
+    let gate = ap gateText (c .before .before .before .before .before .gate-at .ensures) in
+    let w1 = step w0 (put-is gate (c .before .before .before .put-gate .ensures)) in
+    room-of w1
 
 put-requires : tie.Need-put-requires Inv-loop μ-loop
-put-requires c κs = omega (arith, room-of (step (step (apart _ (gates-open (c .before .before .before .before .before .before .before .before .before .before .before .before .before .before .before .args .net .now) _ _ (c .before .before .before .before .before .before .before .before .before .before .loop-test .taken)) (c .before .before .before .before .before .before .before .before .before .before .before .loop .inv .2)) (put-is (ap gateText (c .before .before .before .before .before .before .before .before .before .gate-at .ensures)) (c .before .before .before .before .before .before .before .put-gate .ensures))) (c .before .before .before .put-between .ensures)))
+put-requires c κs =
+    let w0 = apart _ (gates-open (c .before .before .before .before .before .before .before .before .before .before .before .before .before .before .before .args .net .now) _ _ (c .before .before .before .before .before .before .before .before .before .before .loop-test .taken)) (c .before .before .before .before .before .before .before .before .before .before .before .loop .inv .2) in
+    let gate = ap gateText (c .before .before .before .before .before .before .before .before .before .gate-at .ensures) in
+    let w1 = step w0 (put-is gate (c .before .before .before .before .before .before .before .put-gate .ensures)) in
+    let w2 = step w1 (c .before .before .before .put-between .ensures) in
+    omega (arith, room-of w2)
 
 loop-again : tie.Need-loop-again Inv-loop μ-loop
-loop-again c = (c .before .before .put .kept .0 ∙ c .before .before .before .before .before .before .put-between .kept .0 ∙ c .before .before .before .before .before .before .before .before .before .before .put-gate .kept .0 ∙ c .before .before .before .before .before .before .before .before .before .before .before .before .before .before .loop .inv .0, omega arith, step (step (step (apart _ (gates-open (c .before .before .before .before .before .before .before .before .before .before .before .before .before .before .before .before .before .before .args .net .now) _ _ (c .before .before .before .before .before .before .before .before .before .before .before .before .before .loop-test .taken)) (c .before .before .before .before .before .before .before .before .before .before .before .before .before .before .loop .inv .2)) (put-is (ap gateText (c .before .before .before .before .before .before .before .before .before .before .before .before .gate-at .ensures)) (c .before .before .before .before .before .before .before .before .before .before .put-gate .ensures))) (c .before .before .before .before .before .before .put-between .ensures)) (c .before .before .put .ensures))
+loop-again c =
+    let at-put-between = c .before .before .before .before .before .before in
+    let at-put-gate = c .before .before .before .before .before .before .before .before .before .before in
+    let at-loop = c .before .before .before .before .before .before .before .before .before .before .before .before .before .before in
+    let w0 = apart _ (gates-open (c .before .before .before .before .before .before .before .before .before .before .before .before .before .before .before .before .before .before .args .net .now) _ _ (c .before .before .before .before .before .before .before .before .before .before .before .before .before .loop-test .taken)) (at-loop .loop .inv .2) in
+    let gate = ap gateText (c .before .before .before .before .before .before .before .before .before .before .before .before .gate-at .ensures) in
+    let w1 = step w0 (put-is gate (at-put-gate .put-gate .ensures)) in
+    let w2 = step w1 (at-put-between .put-between .ensures) in
+    (c .before .before .put .kept .0 ∙ at-put-between .put-between .kept .0 ∙ at-put-gate .put-gate .kept .0 ∙ at-loop .loop .inv .0, omega arith, step w2 (c .before .before .put .ensures))
 
 same-length : tie.Need-same-length Inv-loop μ-loop
 same-length c = c .before .loop .inv .0
 
 returns : tie.Need-returns Inv-loop μ-loop
-returns c = put-is (ap (gatesText (c .before .before .before .before .before .args .net .now) 0) (c .before .before .word .ensures)) (finish (apart [] (gates-close _ _ _ (c .loop-test .left)) (c .before .loop .inv .2)))
+returns c =
+    let count = ap (gatesText (c .before .before .before .before .before .args .net .now) 0) (c .before .before .word .ensures) in
+    put-is count (finish (apart [] (gates-close _ _ _ (c .loop-test .left)) (c .before .loop .inv .2)))
 
 pub put-gates-spec : {M : Type 1} → statement M
 put-gates-spec =

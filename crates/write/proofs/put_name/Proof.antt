@@ -10,13 +10,20 @@ array-share-prefix-letters : tie.Need-array-share-prefix-letters
 array-share-prefix-letters c = letters-fit (c .before .before .before .before .args .kind) (c .before .before .name .ensures .0) (c .before .before .name .ensures .1)
 
 slice-aggregate-copy : tie.Need-slice-aggregate-copy
-slice-aggregate-copy c = sym (length-take-le _ _ (letters-fit (c .before .before .before .before .before .args .kind) (c .before .before .before .name .ensures .0) (c .before .before .before .name .ensures .1)))
+slice-aggregate-copy c =
+    let at-name = c .before .before .before in
+    sym (length-take-le _ _ (letters-fit (c .before .before .before .before .before .args .kind) (at-name .name .ensures .0) (at-name .name .ensures .1)))
 
 copy-requires : tie.Need-copy-requires
-copy-requires c κs = room-as _ _ (letters (c .before .before .before .before .before .args .kind) (c .before .before .before .name .ensures .0) (c .before .before .before .name .ensures .1)) (c .before .before .before .before .before .pre)
+copy-requires c κs =
+    let at-name = c .before .before .before in
+    let start = c .before .before .before .before .before in
+    room-as _ _ (letters (start .args .kind) (at-name .name .ensures .0) (at-name .name .ensures .1)) (start .pre)
 
 returns : tie.Need-returns
-returns c = put-is (letters (c .before .before .before .before .before .before .before .before .args .kind) (c .before .before .before .before .before .before .name .ensures .0) (c .before .before .before .before .before .before .name .ensures .1)) (c .before .before .copy .ensures)
+returns c =
+    let at-name = c .before .before .before .before .before .before in
+    put-is (letters (c .before .before .before .before .before .before .before .before .args .kind) (at-name .name .ensures .0) (at-name .name .ensures .1)) (c .before .before .copy .ensures)
 
 pub put-name-spec : {M : Type 1} → statement M
 put-name-spec =

@@ -8,16 +8,33 @@ use native.Mathlib.Omega.{arith}
 use Rattle.write.proofs.put_slot.Tie as tie
 
 put-wire-requires : tie.Need-put-wire-requires
-put-wire-requires c κs = (c .before .before .before .pre .0 (c .before .if1 .taken), room-of (apart _ (slot-used (c .before .before .before .args .n) (c .before .before .before .args .k) (c .before .before .before .args .x) (c .before .if1 .taken)) (begin-one (c .before .before .before .args .text .now) (c .before .before .before .args .at) _ (c .before .before .before .pre .1))))
+put-wire-requires c κs =
+    let start = c .before .before .before in
+    let w0 = apart _ (slot-used (start .args .n) (start .args .k) (start .args .x) (c .before .if1 .taken)) (begin-one (start .args .text .now) (start .args .at) _ (start .pre .1)) in
+    (start .pre .0 (c .before .if1 .taken), room-of w0)
 
 put-requires : tie.Need-put-requires
-put-requires c κs = omega (arith, room-of (piece-is (between-some _ _ (omega (arith, c .before .if2 .taken))) (step (apart _ (slot-used (c .before .before .before .before .before .before .before .before .args .n) (c .before .before .before .before .before .before .before .before .args .k) (c .before .before .before .before .before .before .before .before .args .x) (c .before .before .before .before .before .before .if1 .taken)) (begin-one (c .before .before .before .before .before .before .before .before .args .text .now) (c .before .before .before .before .before .before .before .before .args .at) _ (c .before .before .before .before .before .before .before .before .pre .1))) (c .before .before .before .before .put-wire .ensures))))
+put-requires c κs =
+    let start = c .before .before .before .before .before .before .before .before in
+    let w0 = apart _ (slot-used (start .args .n) (start .args .k) (start .args .x) (c .before .before .before .before .before .before .if1 .taken)) (begin-one (start .args .text .now) (start .args .at) _ (start .pre .1)) in
+    let w1 = step w0 (c .before .before .before .before .put-wire .ensures) in
+    let comma = piece-is (between-some _ _ (omega (arith, c .before .if2 .taken))) w1 in
+    omega (arith, room-of comma)
 
 returns : tie.Need-returns
-returns c = finish (step (piece-is (between-some _ _ (omega (arith, c .before .before .before .before .if2 .taken))) (step (apart _ (slot-used (c .before .before .before .before .before .before .before .before .before .before .before .args .n) (c .before .before .before .before .before .before .before .before .before .before .before .args .k) (c .before .before .before .before .before .before .before .before .before .before .before .args .x) (c .before .before .before .before .before .before .before .before .before .if1 .taken)) (begin-one (c .before .before .before .before .before .before .before .before .before .before .before .args .text .now) (c .before .before .before .before .before .before .before .before .before .before .before .args .at) _ (c .before .before .before .before .before .before .before .before .before .before .before .pre .1))) (c .before .before .before .before .before .before .before .put-wire .ensures))) (c .before .before .put .ensures))
+returns c =
+    let start = c .before .before .before .before .before .before .before .before .before .before .before in
+    let w0 = apart _ (slot-used (start .args .n) (start .args .k) (start .args .x) (c .before .before .before .before .before .before .before .before .before .if1 .taken)) (begin-one (start .args .text .now) (start .args .at) _ (start .pre .1)) in
+    let w1 = step w0 (c .before .before .before .before .before .before .before .put-wire .ensures) in
+    let comma = piece-is (between-some _ _ (omega (arith, c .before .before .before .before .if2 .taken))) w1 in
+    finish (step comma (c .before .before .put .ensures))
 
 returns-2 : tie.Need-returns-2
-returns-2 c = finish (step (piece-is (between-none _ _ (omega (arith, c .if2 .left))) (step (apart _ (slot-used (c .before .before .before .before .before .before .before .args .n) (c .before .before .before .before .before .before .before .args .k) (c .before .before .before .before .before .before .before .args .x) (c .before .before .before .before .before .if1 .taken)) (begin-one (c .before .before .before .before .before .before .before .args .text .now) (c .before .before .before .before .before .before .before .args .at) _ (c .before .before .before .before .before .before .before .pre .1))) (c .before .before .before .put-wire .ensures))) put-none)
+returns-2 c =
+    let start = c .before .before .before .before .before .before .before in
+    let w0 = apart _ (slot-used (start .args .n) (start .args .k) (start .args .x) (c .before .before .before .before .before .if1 .taken)) (begin-one (start .args .text .now) (start .args .at) _ (start .pre .1)) in
+    let w1 = step w0 (c .before .before .before .put-wire .ensures) in
+    finish (step (piece-is (between-none _ _ (omega (arith, c .if2 .left))) w1) put-none)
 
 returns-3 : tie.Need-returns-3
 returns-3 c = put-is (sym (slot-free _ _ _ (c .if1 .left))) put-none

@@ -8,16 +8,36 @@ use native.Mathlib.Omega.{arith}
 use Rattle.write.proofs.put_slots.Tie as tie
 
 put-slot-requires : tie.Need-put-slot-requires
-put-slot-requires c κs = (small 0 (c .before .inputs .ensures) (c .before .before .before .pre .0 .a), room-of (begin (c .before .before .before .args .text .now) (c .before .before .before .args .at) (slotsOf (c .before .inputs .result) (c .before .before .before .args .g)) (omega (arith, ap length (slots-of (c .before .before .before .args .g) (c .before .inputs .ensures)), c .before .before .before .pre .1))))
+put-slot-requires c κs =
+    let start = c .before .before .before in
+    let w0 = begin (start .args .text .now) (start .args .at) (slotsOf (c .before .inputs .result) (start .args .g)) (omega (arith, ap length (slots-of (start .args .g) (c .before .inputs .ensures)), start .pre .1)) in
+    (small 0 (c .before .inputs .ensures) (start .pre .0 .a), room-of w0)
 
 put-slot-requires-2 : tie.Need-put-slot-requires-2
-put-slot-requires-2 c κs = (small 1 (c .before .before .before .before .before .inputs .ensures) (c .before .before .before .before .before .before .before .pre .0 .b), room-of (step (begin (c .before .before .before .before .before .before .before .args .text .now) (c .before .before .before .before .before .before .before .args .at) (slotsOf (c .before .before .before .before .before .inputs .result) (c .before .before .before .before .before .before .before .args .g)) (omega (arith, ap length (slots-of (c .before .before .before .before .before .before .before .args .g) (c .before .before .before .before .before .inputs .ensures)), c .before .before .before .before .before .before .before .pre .1))) (c .before .before .before .put-slot .ensures)))
+put-slot-requires-2 c κs =
+    let at-inputs = c .before .before .before .before .before in
+    let start = c .before .before .before .before .before .before .before in
+    let w0 = begin (start .args .text .now) (start .args .at) (slotsOf (at-inputs .inputs .result) (start .args .g)) (omega (arith, ap length (slots-of (start .args .g) (at-inputs .inputs .ensures)), start .pre .1)) in
+    let w1 = step w0 (c .before .before .before .put-slot .ensures) in
+    (small 1 (at-inputs .inputs .ensures) (start .pre .0 .b), room-of w1)
 
 put-slot-requires-3 : tie.Need-put-slot-requires-3
-put-slot-requires-3 c κs = (small 2 (c .before .before .before .before .before .before .before .before .before .inputs .ensures) (c .before .before .before .before .before .before .before .before .before .before .before .pre .0 .c), room-of (step (step (begin (c .before .before .before .before .before .before .before .before .before .before .before .args .text .now) (c .before .before .before .before .before .before .before .before .before .before .before .args .at) (slotsOf (c .before .before .before .before .before .before .before .before .before .inputs .result) (c .before .before .before .before .before .before .before .before .before .before .before .args .g)) (omega (arith, ap length (slots-of (c .before .before .before .before .before .before .before .before .before .before .before .args .g) (c .before .before .before .before .before .before .before .before .before .inputs .ensures)), c .before .before .before .before .before .before .before .before .before .before .before .pre .1))) (c .before .before .before .before .before .before .before .put-slot .ensures)) (c .before .before .before .put-slot2 .ensures)))
+put-slot-requires-3 c κs =
+    let at-inputs = c .before .before .before .before .before .before .before .before .before in
+    let start = c .before .before .before .before .before .before .before .before .before .before .before in
+    let w0 = begin (start .args .text .now) (start .args .at) (slotsOf (at-inputs .inputs .result) (start .args .g)) (omega (arith, ap length (slots-of (start .args .g) (at-inputs .inputs .ensures)), start .pre .1)) in
+    let w1 = step w0 (c .before .before .before .before .before .before .before .put-slot .ensures) in
+    let w2 = step w1 (c .before .before .before .put-slot2 .ensures) in
+    (small 2 (at-inputs .inputs .ensures) (start .pre .0 .c), room-of w2)
 
 returns : tie.Need-returns
-returns c = put-is (slots-of (c .before .before .before .before .before .before .before .before .before .before .before .before .before .before .args .g) (c .before .before .before .before .before .before .before .before .before .before .before .before .inputs .ensures)) (finish (step (step (step (begin (c .before .before .before .before .before .before .before .before .before .before .before .before .before .before .args .text .now) (c .before .before .before .before .before .before .before .before .before .before .before .before .before .before .args .at) (slotsOf (c .before .before .before .before .before .before .before .before .before .before .before .before .inputs .result) (c .before .before .before .before .before .before .before .before .before .before .before .before .before .before .args .g)) (omega (arith, ap length (slots-of (c .before .before .before .before .before .before .before .before .before .before .before .before .before .before .args .g) (c .before .before .before .before .before .before .before .before .before .before .before .before .inputs .ensures)), c .before .before .before .before .before .before .before .before .before .before .before .before .before .before .pre .1))) (c .before .before .before .before .before .before .before .before .before .before .put-slot .ensures)) (c .before .before .before .before .before .before .put-slot2 .ensures)) (c .before .before .put-slot3 .ensures)))
+returns c =
+    let at-inputs = c .before .before .before .before .before .before .before .before .before .before .before .before in
+    let start = c .before .before .before .before .before .before .before .before .before .before .before .before .before .before in
+    let w0 = begin (start .args .text .now) (start .args .at) (slotsOf (at-inputs .inputs .result) (start .args .g)) (omega (arith, ap length (slots-of (start .args .g) (at-inputs .inputs .ensures)), start .pre .1)) in
+    let w1 = step w0 (c .before .before .before .before .before .before .before .before .before .before .put-slot .ensures) in
+    let w2 = step w1 (c .before .before .before .before .before .before .put-slot2 .ensures) in
+    put-is (slots-of (start .args .g) (at-inputs .inputs .ensures)) (finish (step w2 (c .before .before .put-slot3 .ensures)))
 
 pub put-slots-spec : {M : Type 1} → statement M
 put-slots-spec =

@@ -20,16 +20,32 @@ loop-holds : tie.Need-loop-holds Inv-loop μ-loop
 loop-holds c = (refl, omega arith, piece-is (vars-begin _ _) (begin-one (c .before .args .text .now) (c .before .args .at) _ (c .before .pre .1)))
 
 copy-requires : tie.Need-copy-requires Inv-loop μ-loop
-copy-requires c κs = room-of (apart _ (vars-open _ _ _ (c .before .before .loop-test .taken)) (c .before .before .before .loop .inv .2))
+copy-requires c κs =
+    let w0 = apart _ (vars-open _ _ _ (c .before .before .loop-test .taken)) (c .before .before .before .loop .inv .2) in
+    room-of w0
 
 put-entry-requires : tie.Need-put-entry-requires Inv-loop μ-loop
-put-entry-requires c κs = (omega arith, room-of (step (apart _ (vars-open _ _ _ (c .before .before .before .before .before .before .loop-test .taken)) (c .before .before .before .before .before .before .before .loop .inv .2)) (c .before .before .before .copy .ensures)))
+put-entry-requires c κs =
+    let w0 = apart _ (vars-open _ _ _ (c .before .before .before .before .before .before .loop-test .taken)) (c .before .before .before .before .before .before .before .loop .inv .2) in
+    let w1 = step w0 (c .before .before .before .copy .ensures) in
+    (omega arith, room-of w1)
 
 copy-requires-2 : tie.Need-copy-requires-2 Inv-loop μ-loop
-copy-requires-2 c κs = room-of (step (step (apart _ (vars-open _ _ _ (c .before .before .before .before .before .before .before .before .before .before .before .loop-test .taken)) (c .before .before .before .before .before .before .before .before .before .before .before .before .loop .inv .2)) (c .before .before .before .before .before .before .before .before .copy .ensures)) (c .before .before .before .before .put-entry .ensures))
+copy-requires-2 c κs =
+    let w0 = apart _ (vars-open _ _ _ (c .before .before .before .before .before .before .before .before .before .before .before .loop-test .taken)) (c .before .before .before .before .before .before .before .before .before .before .before .before .loop .inv .2) in
+    let w1 = step w0 (c .before .before .before .before .before .before .before .before .copy .ensures) in
+    let w2 = step w1 (c .before .before .before .before .put-entry .ensures) in
+    room-of w2
 
 loop-again : tie.Need-loop-again Inv-loop μ-loop
-loop-again c = (c .before .before .copy2 .kept .0 ∙ c .before .before .before .before .before .before .before .put-entry .kept .0 ∙ c .before .before .before .before .before .before .before .before .before .before .before .copy .kept .0 ∙ c .before .before .before .before .before .before .before .before .before .before .before .before .before .before .before .loop .inv .0, omega arith, step (step (step (apart _ (vars-open _ _ _ (c .before .before .before .before .before .before .before .before .before .before .before .before .before .before .loop-test .taken)) (c .before .before .before .before .before .before .before .before .before .before .before .before .before .before .before .loop .inv .2)) (c .before .before .before .before .before .before .before .before .before .before .before .copy .ensures)) (c .before .before .before .before .before .before .before .put-entry .ensures)) (c .before .before .copy2 .ensures))
+loop-again c =
+    let at-put-entry = c .before .before .before .before .before .before .before in
+    let at-copy = c .before .before .before .before .before .before .before .before .before .before .before in
+    let at-loop = c .before .before .before .before .before .before .before .before .before .before .before .before .before .before .before in
+    let w0 = apart _ (vars-open _ _ _ (c .before .before .before .before .before .before .before .before .before .before .before .before .before .before .loop-test .taken)) (at-loop .loop .inv .2) in
+    let w1 = step w0 (at-copy .copy .ensures) in
+    let w2 = step w1 (at-put-entry .put-entry .ensures) in
+    (c .before .before .copy2 .kept .0 ∙ at-put-entry .put-entry .kept .0 ∙ at-copy .copy .kept .0 ∙ at-loop .loop .inv .0, omega arith, step w2 (c .before .before .copy2 .ensures))
 
 same-length : tie.Need-same-length Inv-loop μ-loop
 same-length c = c .before .loop .inv .0
