@@ -26,8 +26,7 @@ unfolding told
 returns-2 c =
     let at-guess = c .before .before .before .before .before .before .before .before .before in
     let at-words = c .before .before .before .before .before .before .before .before .before .before .before .before .before .before in
-    let enough = omega (arith, at-words .words .kept .0, c .before .before .before .before .before .before .before .before .before .before .before .if1 .left) in
-    read-none enough (at-words .words .ensures) (at-guess .guess .ensures) (c .before .before .words2 .ensures ∙ ap zeros (at-guess .guess .kept .1 .0 ∙ at-words .words .kept .0))
+    read-none (omega (arith, at-words .words .kept .0, c .before .before .before .before .before .before .before .before .before .before .before .if1 .left)) (at-words .words .ensures) (at-guess .guess .ensures) (c .before .before .words2 .ensures ∙ ap zeros (at-guess .guess .kept .1 .0 ∙ at-words .words .kept .0))
     (fails (c .before .before .before .before .before .written-as .ensures) (not-true _ (c .before .before .before .before .if2 .taken)))
 
 same-length-3 : tie.Need-same-length-3
@@ -37,8 +36,7 @@ returns-3 : tie.Need-returns-3
 unfolding told
 returns-3 c =
     let at-words = c .before .before .before .before .before .before .before .before .before .before in
-    let enough = omega (arith, at-words .words .kept .0, c .before .before .before .before .before .before .before .if1 .left) in
-    read-done enough (at-words .words .ensures) (c .before .before .before .before .before .guess .ensures) (holds (c .before .written-as .ensures) (not-false _ (c .if2 .left)))
+    read-done (omega (arith, at-words .words .kept .0, c .before .before .before .before .before .before .before .if1 .left)) (at-words .words .ensures) (c .before .before .before .before .before .guess .ensures) (holds (c .before .written-as .ensures) (not-false _ (c .if2 .left)))
 
 pub read-spec : {M : Type 1} → statement M
 read-spec =
