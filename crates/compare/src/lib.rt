@@ -19,6 +19,7 @@ enum Seen {
     Not,
 }
 
+// A piece of any length, byte by byte.
 fn see(text: &[u8], at: usize, piece: &[u8]) -> Seen
     requires { ⌜ at ≤ length (now text) ⌝ }
     ensures { λ r. ⌜ Match (now (text .entry)) at (now (piece .entry)) r ⌝ }
@@ -36,6 +37,7 @@ fn see(text: &[u8], at: usize, piece: &[u8]) -> Seen
     Seen::To(at + i)
 }
 
+// A digit as its byte.
 fn digit(n: u16) -> u8
     requires { ⌜ n < 10 ⌝ }
     ensures { λ r. ⌜ r ≡ 48 + n ⌝ }
@@ -43,6 +45,7 @@ fn digit(n: u16) -> u8
     b'0' + n as u8
 }
 
+// A number in decimal, with no zero before it.
 fn see_number(text: &[u8], at: usize, n: u16) -> Seen
     requires { ⌜ (at ≤ length (now text)) × (n < 10000) ⌝ }
     ensures { λ r. ⌜ Match (now (text .entry)) at (decimal n) r ⌝ }
@@ -68,6 +71,7 @@ fn see_number(text: &[u8], at: usize, n: u16) -> Seen
     see(text, at, &s)
 }
 
+// A mark where more follow: none after the last.
 fn see_between(text: &[u8], at: usize, b: u8, more: u16) -> Seen
     requires { ⌜ at ≤ length (now text) ⌝ }
     ensures { λ r. ⌜ Match (now (text .entry)) at (between (b ∷ []) more) r ⌝ }
@@ -79,6 +83,7 @@ fn see_between(text: &[u8], at: usize, b: u8, more: u16) -> Seen
     see(text, at, &s)
 }
 
+// w5
 fn see_wire(text: &[u8], at: usize, wire: u16) -> Seen
     requires { ⌜ (at ≤ length (now text)) × (wire < 10000) ⌝ }
     ensures { λ r. ⌜ Match (now (text .entry)) at (wireText wire) r ⌝ }
@@ -89,6 +94,7 @@ fn see_wire(text: &[u8], at: usize, wire: u16) -> Seen
     see_number(text, a, wire)
 }
 
+// w5:WIRE
 fn see_entry(text: &[u8], at: usize, wire: u16) -> Seen
     requires { ⌜ (at ≤ length (now text)) × (wire < 10000) ⌝ }
     ensures { λ r. ⌜ Match (now (text .entry)) at (entryText wire) r ⌝ }
@@ -99,6 +105,7 @@ fn see_entry(text: &[u8], at: usize, wire: u16) -> Seen
     see(text, a, b":WIRE")
 }
 
+// So many ports from wire s on, and the end of their line.
 fn see_ports(text: &[u8], at: usize, s: u16, n: u16) -> Seen
     requires { ⌜ (at ≤ length (now text)) × (s + n < 10000) ⌝ }
     ensures { λ r. ⌜ Match (now (text .entry)) at (portsText s n) r ⌝ }
@@ -118,6 +125,7 @@ fn see_ports(text: &[u8], at: usize, s: u16, n: u16) -> Seen
     see(text, p, b"]\n")
 }
 
+// So many other wires from wire s on, a line each.
 fn see_vars(text: &[u8], at: usize, s: u16, n: u16) -> Seen
     requires { ⌜ (at ≤ length (now text)) × (s + n < 10000) ⌝ }
     ensures { λ r. ⌜ Match (now (text .entry)) at (varsText s n) r ⌝ }
@@ -140,6 +148,7 @@ fn see_vars(text: &[u8], at: usize, s: u16, n: u16) -> Seen
     Seen::To(p)
 }
 
+// The name of a kind.
 fn see_name(text: &[u8], at: usize, kind: u16) -> Seen
     requires { ⌜ at ≤ length (now text) ⌝ }
     ensures { λ r. ⌜ Match (now (text .entry)) at (primitive kind .name) r ⌝ }
@@ -150,6 +159,7 @@ fn see_name(text: &[u8], at: usize, kind: u16) -> Seen
     see(text, at, &letters[..n])
 }
 
+// Slot k, which holds x, of a gate with n inputs: nothing where the kind does not use it.
 fn see_slot(text: &[u8], at: usize, n: usize, k: usize, x: u16) -> Seen
     requires { ⌜ (at ≤ length (now text)) × ((k < n → x < 10000)) ⌝ }
     ensures { λ r. ⌜ Match (now (text .entry)) at (slotText n k x) r ⌝ }
@@ -166,6 +176,7 @@ fn see_slot(text: &[u8], at: usize, n: usize, k: usize, x: u16) -> Seen
     Seen::To(at)
 }
 
+// The input wires of a gate.
 fn see_slots(text: &[u8], at: usize, g: Gate) -> Seen
     requires { ⌜ Fine 1536 0 g ⌝ }
     requires { ⌜ at ≤ length (now text) ⌝ }
@@ -192,6 +203,7 @@ fn see_call(text: &[u8], at: usize, kind: u16) -> Seen
     see(text, a, b" [")
 }
 
+// xor [w5,w1] [w6]
 fn see_gate(text: &[u8], at: usize, g: Gate) -> Seen
     requires { ⌜ Fine 1536 0 g ⌝ }
     requires { ⌜ at ≤ length (now text) ⌝ }
@@ -212,6 +224,7 @@ fn see_gate(text: &[u8], at: usize, g: Gate) -> Seen
     see(text, d, b"]")
 }
 
+// One gate a line, each but the last with a semicolon.
 fn see_gates(net: &[u16], text: &[u8], at: usize) -> Seen
     requires { ⌜ WellFormed (now net) ⌝ }
     requires { ⌜ at ≤ length (now text) ⌝ }

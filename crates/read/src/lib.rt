@@ -51,6 +51,7 @@ fn after(text: &[u8], at: usize, b: u8) -> usize
     at
 }
 
+// Whether a number goes on.
 fn is_digit(b: u8) -> bool
     ensures { λ r. ⌜ Decides (Digit b) r ⌝ }
 {
@@ -63,6 +64,7 @@ fn is_digit(b: u8) -> bool
     true
 }
 
+// What a digit stands for; any byte is taken, since nothing is tested here.
 fn amount(b: u8) -> u16
     ensures { λ r. ⌜ (r ≡ b - 48) × (r < 256) ⌝ }
 {
@@ -92,6 +94,7 @@ fn value(a: u8, b: u8, c: u8, d: u8) -> usize
     1000 * first + 100 * second + 10 * third + netlist::wide(amount(d))
 }
 
+// A small number as a word.
 fn narrow(v: usize) -> u16
     requires { ⌜ v < 10000 ⌝ }
     ensures { λ r. ⌜ r ≡ v ⌝ }
@@ -99,6 +102,7 @@ fn narrow(v: usize) -> u16
     v as u16
 }
 
+// The number at a place.
 fn read_number(text: &[u8], at: usize) -> u16
     requires { ⌜ at ≤ length (now text) ⌝ }
     ensures { λ r. ⌜ ((n : ℕ) (ps : List (List ℕ)) → n < 10000 → Ahead (now (text .entry)) at (decimal n ∷ ps) → Stops ps → r ≡ n) ⌝ }
@@ -138,6 +142,7 @@ struct Part {
     pub next: usize,
 }
 
+// The number after a w.
 fn read_wire(text: &[u8], at: usize) -> Part
     requires { ⌜ at ≤ length (now text) ⌝ }
     ensures { λ r. ⌜ r .next ≤ length (now (text .entry)) ⌝ }
@@ -236,6 +241,7 @@ struct Found {
     pub next: usize,
 }
 
+// A gate up to its last bracket.
 fn read_gate(text: &[u8], at: usize) -> Found
     requires { ⌜ at ≤ length (now text) ⌝ }
     ensures { λ r. ⌜ r .next ≤ length (now (text .entry)) ⌝ }
@@ -260,6 +266,7 @@ fn read_gate(text: &[u8], at: usize) -> Found
     Found { gate, next }
 }
 
+// How many letters the name of a kind has.
 fn name_width(kind: u16) -> usize
     ensures { λ r. ⌜ (r ≡ length (primitive kind .name)) × (r ≤ 7) ⌝ }
 {
@@ -267,6 +274,7 @@ fn name_width(kind: u16) -> usize
     name.length
 }
 
+// The record of gate i.
 fn put_record(net: &mut [u16], i: u16, g: Gate)
     requires { ⌜ (i < 1024) × (5124 ≤ length (now net)) ⌝ }
     ensures { λ _. ⌜ Put (now (net .entry)) (4 + 5 * i) (recordOf g) (4 + 5 * (i + 1)) (now (net .exit)) ⌝ }
@@ -299,6 +307,7 @@ fn read_gates(text: &[u8], at: usize, net: &mut [u16]) -> u16
     i
 }
 
+// The table of contents.
 fn put_head(net: &mut [u16], inputs: u16, outputs: u16, wires: u16, gates: u16)
     requires { ⌜ 4 ≤ length (now net) ⌝ }
     ensures { λ _. ⌜ now (net .exit) ≡ sets (now (net .entry)) 0 (inputs ∷ outputs ∷ wires ∷ gates ∷ []) ⌝ }

@@ -90,15 +90,6 @@ module _ {net ins values : List ℕ} (wf : WellFormed net) (ok : Inputs net ins)
 abbrev pub portBits : List ℕ → List ℕ → List Signal
 portBits net values = carried (λ i. fromByte (getD values i 0)) 0 (inputs net + outputs net)
 
-pub run-allows : {net ins values : List ℕ} {len : ℕ} {t : Told} → t .number ≡ 0 → Ran net ins len t values
-    → ((i : ℕ) → i < wires net → getD values i 0 ≡ 2 → ⊥) → NetAllows net (portBits net values)
-run-allows n (short-values l) all = absurd (omega arith)
-run-allows n (bad-netlist l f) all = absurd (omega arith)
-run-allows n (wrong-inputs l x f) all = absurd (omega arith)
-run-allows n (ran l wf ok e s) all = allowed wf ok s all
-
--- ---- and nothing else
-
 carried-at : (w : ℕ → Signal) (n b k : ℕ) → k < n → getD (carried w b n) k dark ≡ w (b + k)
 unfolding carried
 carried-at w zero b k h = absurd (omega arith)
@@ -113,14 +104,21 @@ carried-same u w (suc n) b f =
     let g = carried-same u w n (suc b) (λ i h k. f i (omega arith) (omega arith)) in
     rw (e, g)
 
--- if every wire settles, any bits that the netlist allows with these inputs are the bits shown
-pub run-only : {net ins values : List ℕ} {len : ℕ} {t : Told} → t .number ≡ 0 → Ran net ins len t values → WellFormed net
+-- a run in which every wire settles shows bits that the netlist allows, and whatever it allows with these inputs is what is shown
+pub run-decides : {net ins values : List ℕ} {len : ℕ} {t : Told} → t .number ≡ 0 → Ran net ins len t values
     → ((i : ℕ) → i < wires net → getD values i 0 ≡ 2 → ⊥)
-    → (bits : List Signal) → NetAllows net bits → ((i : ℕ) → i < inputs net → getD bits i dark ≡ fromByte (getD ins i 0)) → bits ≡ portBits net values
-run-only {net} {ins} {values} n r wf all bits a first =
-    let w = a .wires in
-    let start : (i : ℕ) → i < inputs net → w i ≡ fromByte (getD ins i 0) =
-    λ i h. let e : i ≡ 0 + i = omega arith in ap w e ∙ sym (carried-at w (inputs net + outputs net) 0 i (omega arith)) ∙ ap (λ (l : List Signal). getD l i dark) (a .given) ∙ first i h in
-    sym (a .given)
-    ∙ carried-same w (λ i. fromByte (getD values i 0)) (inputs net + outputs net) 0
-    (λ i h k. let l : i < wires net = omega (arith, wf .ports) in settled-only n r w (a .hold) start i l (all i l))
+    → NetAllows net (portBits net values)
+    × ((bits : List Signal) → NetAllows net bits → ((i : ℕ) → i < inputs net → getD bits i dark ≡ fromByte (getD ins i 0)) → bits ≡ portBits net values)
+run-decides n (short-values l) all = absurd (omega arith)
+run-decides n (bad-netlist l f) all = absurd (omega arith)
+run-decides n (wrong-inputs l x f) all = absurd (omega arith)
+run-decides {net} {ins} {values} n (ran l wf ok e s) all = (
+  allowed wf ok s all,
+  λ bits a first.
+      let w = a .wires in
+      let start : (i : ℕ) → i < inputs net → w i ≡ fromByte (getD ins i 0) =
+      λ i h. let e : i ≡ 0 + i = omega arith in ap w e ∙ sym (carried-at w (inputs net + outputs net) 0 i (omega arith)) ∙ ap (λ (l : List Signal). getD l i dark) (a .given) ∙ first i h in
+      sym (a .given)
+      ∙ carried-same w (λ i. fromByte (getD values i 0)) (inputs net + outputs net) 0
+      (λ i h k. let j : i < wires net = omega (arith, wf .ports) in settled-only n (ran l wf ok e s) w (a .hold) start i j (all i j)),
+)

@@ -3,3 +3,4 @@ pub mod Put
 pub mod Pieces
 pub mod Fits
 pub mod Writes
+pub mod Cases

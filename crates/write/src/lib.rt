@@ -13,6 +13,7 @@ ghost use Rattle.write.specs.Put.{Put};
 ghost use Rattle.write.specs.Pieces.{slotText};
 ghost use Rattle.write.specs.Wrote.{Wrote};
 
+// One byte. Every function here returns the place after what it put.
 fn put(text: &mut [u8], at: usize, b: u8) -> usize
     requires { ⌜ at < length (now text) ⌝ }
     ensures { λ r. ⌜ Put (now (text .entry)) at (b ∷ []) r (now (text .exit)) ⌝ }
@@ -21,6 +22,7 @@ fn put(text: &mut [u8], at: usize, b: u8) -> usize
     at + 1
 }
 
+// A piece of any length.
 fn copy(text: &mut [u8], at: usize, s: &[u8]) -> usize
     requires { ⌜ at + length (now s) ≤ length (now text) ⌝ }
     ensures { λ r. ⌜ Put (now (text .entry)) at (now (s .entry)) r (now (text .exit)) ⌝ }
@@ -33,6 +35,7 @@ fn copy(text: &mut [u8], at: usize, s: &[u8]) -> usize
     at + i
 }
 
+// A digit as its byte.
 fn digit(n: u16) -> u8
     requires { ⌜ n < 10 ⌝ }
     ensures { λ r. ⌜ r ≡ 48 + n ⌝ }
@@ -40,6 +43,7 @@ fn digit(n: u16) -> u8
     b'0' + n as u8
 }
 
+// A number in decimal, with no zero before it.
 fn put_number(text: &mut [u8], at: usize, n: u16) -> usize
     requires { ⌜ (n < 10000) × (at + length (decimal n) ≤ length (now text)) ⌝ }
     ensures { λ r. ⌜ Put (now (text .entry)) at (decimal n) r (now (text .exit)) ⌝ }
@@ -76,6 +80,7 @@ fn put_between(text: &mut [u8], at: usize, b: u8, more: u16) -> usize
     put(text, at, b)
 }
 
+// w5
 fn put_wire(text: &mut [u8], at: usize, wire: u16) -> usize
     requires { ⌜ (wire < 10000) × (at + length (wireText wire) ≤ length (now text)) ⌝ }
     ensures { λ r. ⌜ Put (now (text .entry)) at (wireText wire) r (now (text .exit)) ⌝ }
@@ -84,6 +89,7 @@ fn put_wire(text: &mut [u8], at: usize, wire: u16) -> usize
     put_number(text, a, wire)
 }
 
+// w5:WIRE
 fn put_entry(text: &mut [u8], at: usize, wire: u16) -> usize
     requires { ⌜ (wire < 10000) × (at + length (entryText wire) ≤ length (now text)) ⌝ }
     ensures { λ r. ⌜ Put (now (text .entry)) at (entryText wire) r (now (text .exit)) ⌝ }
@@ -123,6 +129,7 @@ fn put_vars(text: &mut [u8], at: usize, s: u16, n: u16) -> usize
     p
 }
 
+// The name of a kind.
 fn put_name(text: &mut [u8], at: usize, kind: u16) -> usize
     requires { ⌜ at + length (primitive kind .name) ≤ length (now text) ⌝ }
     ensures { λ r. ⌜ Put (now (text .entry)) at (primitive kind .name) r (now (text .exit)) ⌝ }
@@ -148,6 +155,7 @@ fn put_slot(text: &mut [u8], at: usize, n: usize, k: usize, x: u16) -> usize
     at
 }
 
+// The input wires of a gate.
 fn put_slots(text: &mut [u8], at: usize, g: Gate) -> usize
     requires { ⌜ Fine 1536 0 g ⌝ }
     requires { ⌜ at + length (wiresText (inputsAt g)) ≤ length (now text) ⌝ }
@@ -159,6 +167,7 @@ fn put_slots(text: &mut [u8], at: usize, g: Gate) -> usize
     put_slot(text, b, n, 2, g.c)
 }
 
+// xor [w5,w1] [w6]
 fn put_gate(text: &mut [u8], at: usize, g: Gate) -> usize
     requires { ⌜ Fine 1536 0 g ⌝ }
     requires { ⌜ at + length (gateText g) ≤ length (now text) ⌝ }
