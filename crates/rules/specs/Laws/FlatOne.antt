@@ -71,7 +71,7 @@ value v (b ∷ l) = value (10 * v + (b - 48)) l
 tens-3 : (m : ℕ) → 100 * (m / 100) + 10 * (m / 10 % 10) + m % 10 ≡ m
 tens-3 m = omega arith
 
-tens-4 : (n : ℕ) → 1000 * (n / 1000) + 100 * (n / 100 % 10) + 10 * (n / 10 % 10) + n % 10 ≡ n
+pub tens-4 : (n : ℕ) → 1000 * (n / 1000) + 100 * (n / 100 % 10) + 10 * (n / 10 % 10) + n % 10 ≡ n
 tens-4 n =
     let e : n / 10 / 100 ≡ n / 1000 = omega arith in
     let f : n / 10 / 10 ≡ n / 100 = omega arith in
@@ -291,13 +291,17 @@ gate-is g h e f i j k = rw (e, f, i, j, k)
 fine-small : {ws ins : ℕ} (g : Gate) → ws ≤ 1536 → Fine ws ins g → All Small (inputsAt g)
 fine-small g l f = small-take (inputsOf (g .kind)) (g .a) (g .b) (g .c) (λ h. omega (arith, f .a .0 h)) (λ h. omega (arith, f .b .0 h)) (λ h. omega (arith, f .c .0 h))
 
+-- a name ends at its blank, and no two kinds have one name
+pub name-one : (j k : ℕ) (q r : List ℕ) → j ≤ 9 → k ≤ 9 → primitive j .name ++ 32 ∷ q ≡ primitive k .name ++ 32 ∷ r → (j ≡ k) × (32 ∷ q ≡ 32 ∷ r)
+name-one j k q r f g e =
+    let a = named j f in
+    let b = named k g in
+    let (en, t) = run-one (a .letters) (b .letters) stop-32 stop-32 e in
+    (sym (a .row) ∙ ap (λ (w : List ℕ). indexOf w primitiveNames) en ∙ b .row, t)
+
 gate-one : {ws vs ins jns : ℕ} (g h : Gate) (q r : List ℕ) → ws ≤ 1536 → vs ≤ 1536 → Fine ws ins g → Fine vs jns h → gateText g ++ q ≡ gateText h ++ r → (g ≡ h) × (q ≡ r)
-unfolding Letter
 gate-one {ws} {vs} {ins} {jns} g h q r l m f i e =
-    let a = named (g .kind) (f .kind) in
-    let b = named (h .kind) (i .kind) in
-    let (en, t) = run-one (a .letters) (b .letters) stop-32 stop-32 (sym (gate-laid g q) ∙ e ∙ gate-laid h r) in
-    let ek : g .kind ≡ h .kind = sym (a .row) ∙ ap (λ (w : List ℕ). indexOf w primitiveNames) en ∙ b .row in
+    let (ek, t) = name-one (g .kind) (h .kind) _ _ (f .kind) (i .kind) (sym (gate-laid g q) ∙ e ∙ gate-laid h r) in
     let (ei, u) = wires-one (inputsAt g) (inputsAt h) _ _ (fine-small g l f) (fine-small h m i) (after (bytes " [") t) in
     let (eo, v) = wire-one (g .out) (h .out) (omega (arith, f .out)) (omega (arith, i .out)) stop-93 stop-93 (after (bytes " [") u) in
     let n = inputsOf (h .kind) in
@@ -313,7 +317,7 @@ name-first : (l q r : List ℕ) → 0 < length l → (getD l 0 0 ≡ 69 → ⊥)
 name-first [] q r h n e = omega arith
 name-first (b ∷ l) q r h n e = n (sym (cons-one e .0))
 
-gate-first : {ws ins : ℕ} (g : Gate) (q r : List ℕ) → Fine ws ins g → 69 ∷ q ≡ gateText g ++ r → ⊥
+pub gate-first : {ws ins : ℕ} (g : Gate) (q r : List ℕ) → Fine ws ins g → 69 ∷ q ≡ gateText g ++ r → ⊥
 gate-first g q r f e = let a = named (g .kind) (f .kind) in name-first (primitive (g .kind) .name) _ _ (a .some) (a .first) (e ∙ gate-laid g r)
 
 lines-next : (n m : ℕ) {q r : List ℕ} → between (bytes ";") n ++ (bytes "\n" ++ q) ≡ between (bytes ";") m ++ (bytes "\n" ++ r) → q ≡ r

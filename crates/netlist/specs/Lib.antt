@@ -1,0 +1,4 @@
+pub mod Answers
+pub mod Decides
+pub mod Judged
+pub mod Parts
