@@ -77,3 +77,10 @@ found-length w [] d h = absurd (omega arith)
 found-length w (v ∷ vs) d h =
     settled (same w v) (λ t e. rw (found w v vs e) (same-length w v t))
     (λ e. let n = missed w v vs e in rw n (found-length w vs d (omega arith)))
+
+-- a search that passed k words goes one on, or ends
+pub next : {a b d : ℕ} (k : ℕ) → a ≡ k + b → b ≡ suc d → a ≡ suc k + d
+next k e f = omega arith
+
+pub ends : {a b : ℕ} (k : ℕ) → a ≡ k + b → b ≡ 0 → k ≡ a
+ends k e f = omega arith

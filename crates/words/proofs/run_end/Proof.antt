@@ -1,50 +1,60 @@
+-- `words::run_end` meets its contract. The invariant: the run from `at` ends where the run from `i` does.
+-- Assumes nothing.
+use Prim.Native.Nat.{_+_, _-_}
+use mathlib.Core.Path.{_≡_}
+use native.Mathlib.Omega.{arith}
+use lib.ListN.{length, drop, getD}
+use Rattle.words.specs.Classes.{inClasses}
+use Rattle.rules.specs.Words.{run}
+use Rattle.words.proofs.Runs.{run-end, run-stop, run-more}
+use Rattle.words.proofs.Classes.{low, high, within}
+use borrow.Author.Needs.{needs}
 use Rattle.words.proofs.run_end.Statement.{statement}
 use Rattle.words.proofs.run_end.Tie as tie
-use Rattle.words.proofs.run_end.Reads as reads
-use Rattle.words.proofs.run_end.Lts as lts
-use Rattle.words.proofs.class_of.Reads as class-of-reads
 
 abbrev Inv-loop : tie.InvT-loop
-Inv-loop text at lo hi i₀ i = ?
+Inv-loop text at lo hi i₀ i = at + run (inClasses lo hi) (drop at text) ≡ i + run (inClasses lo hi) (drop i text)
 
 abbrev μ-loop : tie.MeasureT-loop
-μ-loop text at lo hi i₀ i = ?
+μ-loop text at lo hi i₀ i = length text - i
 
--- src/lib.rt:41:5
-loop-holds : tie.Need-loop-holds Inv-loop μ-loop
-loop-holds c = ?
-
--- src/lib.rt:42:30
-shared-slice-read-class-of : tie.Need-shared-slice-read-class-of Inv-loop μ-loop
-shared-slice-read-class-of c = ?
-
--- src/lib.rt:42:13
-class-of-requires : tie.Need-class-of-requires Inv-loop μ-loop
-class-of-requires c κs = ?
-
--- src/lib.rt:44:13
 returns : tie.Need-returns Inv-loop μ-loop
-returns c = ?
+returns c =
+    let l = c .before .before .before .before .loop in
+    let a = c .before .before .before .before .before .before .args in
+    let s = a .text .now in
+    omega (
+      arith,
+      run-stop (inClasses (a .lo) (a .hi)) s (l .i) (c .before .before .before .loop-test .taken)
+          (low (a .lo) (a .hi) (getD s (l .i) 0) (c .before .class-of .result) (c .before .class-of .ensures) (c .if1 .taken)),
+    )
 
--- src/lib.rt:47:13
 returns-2 : tie.Need-returns-2 Inv-loop μ-loop
-returns-2 c = ?
+returns-2 c =
+    let l = c .before .before .before .before .before .loop in
+    let a = c .before .before .before .before .before .before .before .args in
+    let s = a .text .now in
+    omega (
+      arith,
+      run-stop (inClasses (a .lo) (a .hi)) s (l .i) (c .before .before .before .before .loop-test .taken)
+          (high (a .lo) (a .hi) (getD s (l .i) 0) (c .before .before .class-of .result) (c .before .before .class-of .ensures) (c .if2 .taken)),
+    )
 
--- src/lib.rt:49:9
-add-i : tie.Need-add-i Inv-loop μ-loop
-add-i c = ?
-
--- src/lib.rt:41:5
-loop-less : tie.Need-loop-less Inv-loop μ-loop
-loop-less c = ?
-
--- src/lib.rt:41:5
 loop-again : tie.Need-loop-again Inv-loop μ-loop
-loop-again c = ?
+loop-again c =
+    let l = c .before .before .before .before .before .loop in
+    let a = c .before .before .before .before .before .before .before .args in
+    let s = a .text .now in
+    omega (
+      arith,
+      run-more (inClasses (a .lo) (a .hi)) s (l .i) (c .before .before .before .before .loop-test .taken)
+          (within (a .lo) (a .hi) (getD s (l .i) 0) (c .before .before .class-of .result) (c .before .before .class-of .ensures) (c .before .if1 .left) (c .if2 .left)),
+    )
 
--- src/lib.rt:37:1
 returns-3 : tie.Need-returns-3 Inv-loop μ-loop
-returns-3 c = ?
+returns-3 c =
+    let a = c .before .before .before .args in
+    omega (arith, run-end (inClasses (a .lo) (a .hi)) (a .text .now) (c .before .loop .i) (c .loop-test .left))
 
 pub run-end-spec : {M : Type 1} → statement M
 run-end-spec =
@@ -52,12 +62,12 @@ run-end-spec =
     (tie.spec
     Inv-loop
     μ-loop
-    loop-holds
-    shared-slice-read-class-of
-    class-of-requires
+    (λ c. search needs)
+    (λ c. search needs)
+    (λ c κs. search needs)
     returns
     returns-2
-    add-i
-    loop-less
+    (λ c. search needs)
+    (λ c. search needs)
     loop-again
     returns-3)

@@ -1,50 +1,52 @@
+-- `words::value` meets its contract. The invariant: the value of the digits from `at` is that of the digits from `i`, read after `v`;
+-- and `v` is small, whatever the bytes are. Assumes nothing.
+use Prim.Native.Nat.{_+_, _-_, _*_, _^_, _≤_}
+use mathlib.Core.Path.{_≡_, refl, sym, _∙_}
+use native.Mathlib.Omega.{arith}
+use lib.ListN.{length, take, drop, getD}
+use borrow.Author.Needs.{needs}
+use Rattle.rules.specs.Words.{valueOf}
+use Rattle.words.proofs.Runs.{value-more, value-end, ten-more, ten-six}
 use Rattle.words.proofs.value.Statement.{statement}
 use Rattle.words.proofs.value.Tie as tie
-use Rattle.words.proofs.value.Reads as reads
-use Rattle.words.proofs.value.Lts as lts
-use Rattle.words.proofs.digit.Reads as digit-reads
 
 abbrev Inv-loop : tie.InvT-loop
-Inv-loop text at end v₀ i₀ v i = ?
+Inv-loop text at end v₀ i₀ v i =
+    (at ≤ i) × (i ≤ end) × (v + 23 ≤ 23 * 10 ^ (i - at))
+    × (valueOf 0 (take (end - at) (drop at text)) ≡ valueOf v (take (end - i) (drop i text)))
 
 abbrev μ-loop : tie.MeasureT-loop
-μ-loop text at end v₀ i₀ v i = ?
+μ-loop text at end v₀ i₀ v i = end - i
 
--- src/lib.rt:71:5
 loop-holds : tie.Need-loop-holds Inv-loop μ-loop
-loop-holds c = ?
+loop-holds c =
+    let a = c .before .args in
+    let z : a .at - a .at ≡ 0 = omega arith in
+    (omega arith, omega arith, rw z (omega arith), refl)
 
--- src/lib.rt:72:13
 mul-v : tie.Need-mul-v Inv-loop μ-loop
-mul-v c = ?
+mul-v c =
+    let a = c .before .before .before .args in
+    omega (arith, ten-six (c .before .loop .i - a .at) (omega arith))
 
--- src/lib.rt:72:28
-shared-slice-read-digit : tie.Need-shared-slice-read-digit Inv-loop μ-loop
-shared-slice-read-digit c = ?
-
--- src/lib.rt:72:22
-digit-requires : tie.Need-digit-requires Inv-loop μ-loop
-digit-requires c κs = ?
-
--- src/lib.rt:72:13
 add-v : tie.Need-add-v Inv-loop μ-loop
-add-v c = ?
+add-v c =
+    let a = c .before .before .before .before .before .args in
+    let l = c .before .before .before .loop in
+    omega (arith, c .digit .ensures, ten-six (l .i - a .at) (omega arith), c .before .shared-slice-known2 .given (l .i))
 
--- src/lib.rt:73:9
-add-i : tie.Need-add-i Inv-loop μ-loop
-add-i c = ?
-
--- src/lib.rt:71:5
-loop-less : tie.Need-loop-less Inv-loop μ-loop
-loop-less c = ?
-
--- src/lib.rt:71:5
 loop-again : tie.Need-loop-again Inv-loop μ-loop
-loop-again c = ?
+loop-again c =
+    let a = c .before .before .before .before .before .args in
+    let l = c .before .before .before .loop in
+    (omega arith, omega arith, omega (arith, c .digit .ensures, ten-more (l .i) (a .at) (l .inv .0), c .before .shared-slice-known2 .given (l .i)), l .inv .3 ∙ rw (c .digit .ensures) (value-more (a .text .now) (l .v) (l .i) (a .end) (omega arith) (omega arith)))
 
--- src/lib.rt:65:1
 returns : tie.Need-returns Inv-loop μ-loop
-returns c = ?
+returns c =
+    let a = c .before .before .before .args in
+    let l = c .before .loop in
+    let z : l .i ≡ a .end = omega arith in
+    sym (l .inv .3 ∙ rw z (value-end (a .text .now) (l .v) (a .end)))
 
 pub value-spec : {M : Type 1} → statement M
 value-spec =
@@ -54,10 +56,10 @@ value-spec =
     μ-loop
     loop-holds
     mul-v
-    shared-slice-read-digit
-    digit-requires
+    (λ c. search needs)
+    (λ c κs. search needs)
     add-v
-    add-i
-    loop-less
+    (λ c. search needs)
+    (λ c. search needs)
     loop-again
     returns)
