@@ -5,7 +5,7 @@ use mathlib.Core.List.{List, [], _∷_, map}
 use Prim.Native.Nat.{ℕ, zero, suc, _+_, _-_, _<_, _≤_}
 use native.Mathlib.Numerals.{add-one}
 use native.Mathlib.Omega.{arith}
-use lib.Dec.{T, ltb, leb, eqb}
+use lib.Dec.{T, ltb, leb, eqb, eqb→eq}
 use lib.ListN.{length, getD, take, drop, length-take, length-drop, List·getD-eq-default}
 use lib.Seq.{drop-cons}
 use borrow.Author.Tests.{lt-ltb, le-ltb, le-leb, lt-leb, eq-eqb, ne-eqb}
@@ -94,3 +94,53 @@ module _ (s : List ℕ) (p e : ℕ) (h : p < e) (g : e ≤ length s) where
   a-number k r v c l m d n f =
       let i : e - p ≤ run isDigit (drop p s) = omega (arith, digits (drop p s)) in
       sym (not-reserved k c l ∙ rw (all-run isDigit (drop p s) (e - p) i, le-leb (e - p) 6 m, ← f))
+
+-- ---- what begins at a place
+
+pub the-end : (s : List ℕ) (at p : ℕ) → p ≡ at + run (inClasses 1 1) (drop at s) → length s ≤ p → Mark 0 (length s) (length s) ≡ wordAt s at
+unfolding wordAt pick
+the-end s at p e h = rw (← (separators (drop at s)), ← e, le-ltb p (length s) h)
+
+pub begins : (s : List ℕ) (at p : ℕ) → p ≡ at + run (inClasses 1 1) (drop at s) → p < length s → begun s p ≡ wordAt s at
+unfolding wordAt pick
+begins s at p e h = rw (← (separators (drop at s)), ← e, lt-ltb p (length s) h)
+
+module _ (s : List ℕ) (p e : ℕ) (h : p < length s) (c : e ≡ p + run (inClasses 2 4) (drop p s)) where
+  pub a-word : p < e → spelled p e (take (e - p) (drop p s)) ≡ begun s p
+  unfolding begun pick
+  a-word l =
+      let n : run inWord (drop p s) ≡ e - p = omega (arith, letters (drop p s)) in
+      let m : p + (e - p) ≡ e = omega arith in
+      let g : p < p + run inWord (drop p s) = omega arith in
+      rw (run-some inWord s p h g, n, m)
+
+  outside : e ≤ p → inWord (getD s p 0) ≡ false
+  outside l = run-none inWord s p h (omega (arith, letters (drop p s)))
+
+  module _ (k : ℕ) (d : k ≡ classOf (getD s p 0)) (l : e ≤ p) where
+    pub a-mark : k ≡ 5 → Mark (getD s p 0) p (p + 1) ≡ begun s p
+    unfolding begun pick
+    a-mark i =
+        let o = outside l in
+        let m : isMark (getD s p 0) ≡ true = sym (mark-class (getD s p 0) o) ∙ rw (← d) (eq-eqb k 5 i) in
+        rw (o, m)
+
+    no-mark : (k ≡ 5 → ⊥) → isMark (getD s p 0) ≡ false
+    no-mark i = sym (mark-class (getD s p 0) (outside l)) ∙ rw (← d) (ne-eqb k 5 i)
+
+    pub a-dot : (k ≡ 5 → ⊥) → k ≡ 6 → dotsOr s p ≡ begun s p
+    unfolding begun pick
+    a-dot i j =
+        let o = outside l in
+        let n = no-mark i in
+        let t : eqb (getD s p 0) 46 ≡ true = sym (dot-class (getD s p 0) o n) ∙ rw (← d) (eq-eqb k 6 j) in
+        let b : getD s p 0 ≡ 46 = eqb→eq (getD s p 0) 46 (subst T (sym t) tt) in
+        rw (o, n, b)
+
+    pub a-bad : (k ≡ 5 → ⊥) → (k ≡ 6 → ⊥) → Bad p ≡ begun s p
+    unfolding begun pick
+    a-bad i j =
+        let o = outside l in
+        let n = no-mark i in
+        let t : eqb (getD s p 0) 46 ≡ false = sym (dot-class (getD s p 0) o n) ∙ rw (← d) (ne-eqb k 6 j) in
+        rw (o, n, t)

@@ -6,13 +6,13 @@ use Rattle.words.proofs.dots.Statement.{statement}
 use Rattle.words.proofs.dots.Tie as tie
 
 returns : tie.Need-returns
-returns c = dot-last _ _ (c .if1 .taken)
+returns c = dot-last (c .before .args .text .now) (c .before .args .p) (c .if1 .taken)
 
 returns-2 : tie.Need-returns-2
-returns-2 c = two-dots _ _ (c .if2 .taken)
+returns-2 c = two-dots (c .before .before .before .args .text .now) (c .before .before .before .args .p) (c .if2 .taken)
 
 returns-3 : tie.Need-returns-3
-returns-3 c = one-dot _ _ (c .if2 .left)
+returns-3 c = one-dot (c .before .before .before .args .text .now) (c .before .before .before .args .p) (c .if2 .left)
 
 pub dots-spec : {M : Type 1} → statement M
 dots-spec =
