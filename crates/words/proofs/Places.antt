@@ -1,18 +1,18 @@
 -- Where the word at a place stands, from the definition of a word alone. Assumes nothing.
-use mathlib.Core.Path.{_≡_, refl, sym, ap, _∙_, subst}
-use mathlib.Core.Bool.{Bool, true, false, _&&_, _||_}
+use mathlib.Core.Path.{_≡_, refl, sym, subst}
+use mathlib.Core.Bool.{_&&_, _||_}
 use mathlib.Core.List.{List, [], _∷_, map}
 use Prim.Native.Nat.{ℕ, zero, suc, _+_, _-_, _*_, _<_, _≤_}
 use native.Mathlib.Omega.{arith}
 use native.Mathlib.Decide.{decLt}
-use lib.Dec.{T, ltb, leb, eqb, ltb→lt, leb→le, eqb→eq}
+use lib.Dec.{T, leb, eqb, ltb→lt, leb→le, eqb→eq}
 use lib.ListN.{length, getD, take, drop, length-take, length-drop, List·getD-eq-default}
 use lib.Seq.{drop-cons}
 use borrow.Author.Tests.{ne-eqb}
-use Rattle.rules.specs.Text.{bytes, indexOf}
+use Rattle.rules.specs.Text.{bytes}
 use Rattle.rules.specs.Words.{isSeparator, isDigit, isLetter, isMark, inWord, reserved, run, all, valueOf, spelled, begun, wordAt}
 use Rattle.rules.specs.declared.Word.{Word}
-use Rattle.rules.specs.declared.Word.the-variants.{Bad, Name, Number, Mark}
+use Rattle.rules.specs.declared.Word.the-variants.{Name, Number, Mark}
 use Rattle.rules.specs.Laws.Outcomes.{both-yes}
 use Rattle.rules.specs.Laws.Placed.{pick-of, run-most, run-some}
 use Rattle.words.specs.Onward.{Onward, width, widths, wide}

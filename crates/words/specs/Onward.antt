@@ -19,8 +19,8 @@ widths = 0 ∷ 5 ∷ 3 ∷ 5 ∷ 3 ∷ 8 ∷ 3 ∷ 2 ∷ 4 ∷ 4 ∷ 6 ∷ 2 ∷
 unfoldable pub width : ℕ → ℕ
 width k = cond (eqb k 46) 2 (getD widths k 1)
 
--- The word from p to before q stands in a text of length len, at or after the place at; only the end, at len, can stand before it,
--- where at is past the text: by as much as at exceeds len.
+-- The word from p to before q stands in a text of length len, at or after the place at. Where at is past the text, the end stands
+-- before it, at len: `at - len` is by how much, and is 0 for any other place.
 abbrev pub Onward : ℕ → ℕ → Word → Type 0
 Onward len at (Bad p) = (at ≤ p) × (p < len)
 Onward len at (Name p q) = (at ≤ p) × (p < q) × (q ≤ len) × (q ≤ p + 16)
