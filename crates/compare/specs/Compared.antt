@@ -4,7 +4,8 @@ use mathlib.Core.Bool.{Bool}
 use mathlib.Core.List.{List, [], _∷_}
 use Prim.Native.Nat.{ℕ}
 use Rattle.rules.specs.Netlist.{WellFormed}
-use Rattle.rules.specs.Flat.{joined, flatText}
+use Rattle.rules.specs.Text.{joined}
+use Rattle.rules.specs.Flat.{flatText}
 use Rattle.netlist.specs.Decides.{Decides, decides-one}
 use Rattle.compare.specs.Match.{Starts}
 use Rattle.compare.specs.Walk.{callOf}

@@ -6,7 +6,7 @@ use native.Mathlib.Omega.{arith}
 use native.Mathlib.Numerals.{add-one}
 use lib.ListN.{getD, length, take, drop, length-append, length-drop, List·getD-append}
 use lib.Seq.{drop-drop, drop-append-seam, getD-drop, take-append-seam, length-take-le, getD-take, ext-getD, drop-length}
-use Rattle.rules.specs.Flat.{joined}
+use Rattle.rules.specs.Text.{joined}
 use Rattle.write.specs.Put.{joined-append}
 use Rattle.compare.specs.declared.Seen.{Seen}
 use Rattle.compare.specs.declared.Seen.the-variants.{To, Not}
@@ -146,7 +146,7 @@ found t p at i h g l f = seen {n = at + i} (omega arith) (starts-by t p at l (λ
 pub nothing : {t p : List ℕ} {at : ℕ} → p ≡ [] → at ≤ length t → Match t at p (To at)
 nothing {t} {p} {at} e h = match-is (sym e) (seen {n = at} (omega arith) (starts-none t at h))
 
-pub no-pieces : [] ≡ joined []
+pub no-pieces : _≡_ {A = List ℕ} [] (joined [])
 unfolding joined
 no-pieces = refl
 

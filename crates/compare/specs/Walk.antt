@@ -4,10 +4,10 @@ use mathlib.Core.List.{List, [], _∷_, _++_, append-assoc}
 use Prim.Native.Nat.{ℕ, _+_, _-_}
 use lib.ListN.{length}
 use Rattle.rules.specs.declared.Gate.{Gate}
-use Rattle.rules.specs.Text.{bytes}
+use Rattle.rules.specs.Text.{bytes, joined}
 use Rattle.rules.specs.Primitives.{primitive}
 use Rattle.rules.specs.Netlist.{inputs, outputs, wires, gates, inputsAt}
-use Rattle.rules.specs.Flat.{joined, portsText, varsText, wireText, wiresText, gateText, gatesText, flatText}
+use Rattle.rules.specs.Flat.{portsText, varsText, wireText, wiresText, gateText, gatesText, flatText}
 
 -- the name of a kind, a blank and a bracket
 abbrev pub callOf : ℕ → List (List ℕ)

@@ -6,9 +6,9 @@ use native.Mathlib.Omega.{arith}
 use lib.ListN.{getD, length, take, length-append, List·getD-append}
 use lib.Seq.{length-take-le, getD-take, take-at}
 use Rattle.rules.specs.declared.Gate.{Gate}
-use Rattle.rules.specs.Text.{bytes}
+use Rattle.rules.specs.Text.{bytes, joined}
 use Rattle.rules.specs.Netlist.{inputs, outputs, wires, gates, gateAt, Fine, WellFormed, records}
-use Rattle.rules.specs.Flat.{joined, between, gateText, gatesText, flatText}
+use Rattle.rules.specs.Flat.{between, gateText, gatesText, flatText}
 
 records-length : (w : List ℕ) → WellFormed w → length (records w) ≡ 4 + 5 * gates w
 unfolding records

@@ -7,9 +7,9 @@ use native.Mathlib.Decide.{decLt}
 use lib.ListN.{getD, set, length, take, drop, length-append}
 use lib.Seq.{sets, sets-eq, take-suc, length-take-le, length-sets, drop-at}
 use Rattle.rules.specs.declared.Gate.{Gate}
-use Rattle.rules.specs.Text.{bytes}
+use Rattle.rules.specs.Text.{bytes, joined}
 use Rattle.rules.specs.Netlist.{inputs, outputs, wires, gates, gateAt, Fine, WellFormed, records}
-use Rattle.rules.specs.Flat.{joined, between, portsText, varsText, gateText, gatesText, flatText}
+use Rattle.rules.specs.Flat.{between, portsText, varsText, gateText, gatesText, flatText}
 use Rattle.rules.specs.Laws.FlatOne.{gate-first}
 use Rattle.write.specs.Put.{Put, put-none, put-then, put-is}
 use Rattle.write.specs.Pieces.{gates-begin, gates-open, gates-close, fine-as, parts, parts-of}

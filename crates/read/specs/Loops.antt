@@ -5,8 +5,8 @@ use Prim.Native.Nat.{ℕ, zero, suc, _+_, _-_, _≤_, _<_}
 use native.Mathlib.Omega.{arith}
 use native.Mathlib.Decide.{decLt}
 use lib.ListN.{getD, length, length-append}
-use Rattle.rules.specs.Text.{bytes}
-use Rattle.rules.specs.Flat.{joined, decimal, between, wireText, entryText, portsText, varsText}
+use Rattle.rules.specs.Text.{bytes, joined}
+use Rattle.rules.specs.Flat.{decimal, between, wireText, entryText, portsText, varsText}
 use Rattle.write.specs.Pieces.{between-none, ports-begin, ports-open, ports-close, vars-begin, vars-open, vars-close}
 use Rattle.read.specs.Ahead.{Ahead, room, pass, here, apart}
 

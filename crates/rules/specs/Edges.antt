@@ -5,7 +5,7 @@ use Prim.Native.String.{String}
 use mathlib.Core.Bool.{Bool, true, false}
 use mathlib.Core.List.{List, [], _∷_, _++_}
 use lib.IntN.{ℤ, pos, negsuc}
-use Rattle.rules.specs.Text.{bytes, pick, same, indexOf}
+use Rattle.rules.specs.Text.{bytes, pick, joined, same, indexOf}
 use Rattle.rules.specs.Outcome.{Out, ok, refuse, _>>=_, at, need, nth}
 use Rattle.rules.specs.Primitives.{primitive}
 use Rattle.rules.specs.Words.{run, all, valueOf, spelled, begun, wordAt}
@@ -103,7 +103,7 @@ pub record Edges : Type 0 where
   pub p10 : (of full ≡ net (0 ∷ 0 ∷ 1536 ∷ 0 ∷ []) 0) × (of over ≡ refuse 16 207)
 
 pub edges : Edges
-unfolding value pick same indexOf _>>=_ at need nth primitive run all valueOf spelled begun wordAt before Readers._>>=_ Readers.give Readers.marked Readers.named Readers.isNext Readers.after Readers.mark Readers.aName Readers.ifNext Readers.restUpTo Readers.some Readers.any Grammar.factored Grammar.joined Grammar.chainUpTo Grammar.chain Grammar.factor Grammar.bounds Grammar.declared Grammar.vectored Grammar.aType Grammar.port Grammar.local Grammar.generics Grammar.ports Grammar.argument Grammar.arguments Grammar.calling Grammar.looping Grammar.stated Grammar.statement Grammar.body Grammar.aBlock Grammar.blocks Grammar.grammar Names.isWire Names.isVector Names.isIndex Names.roleOf Names.find Names.once Names.among Names.stands Names.expression Names.expressions Names.argument Names.arguments Resolve.called Resolve.statements Resolve.generics Resolve.sort Resolve.declarations Resolve.resolveBlock Resolve.resolveBlocks Resolve.mainOf Resolve.names Values.ranged Values.apply Values.eval Values.evals Values.rounds Values.width Values.shape Frames.offset Frames.blanks Frames.resolve Frames.resolves Frames.tie Frames.singles Frames.ends Unfold.tick Unfold.declare Unfold.gateOn Unfold.driven Unfold.emit Unfold.addGate Unfold.act Unfold.turns Unfold.unfolds Unfold.enter Unfold.deep Unfold.unfoldMain Netlist.gateWords Netlist.netWords Flatten.program Flatten.flattened flatText Flat.joined Flat.decimal Flat.between Flat.wireText Flat.entryText Flat.portsText Flat.varsText Flat.wiresText Flat.gateText Flat.gatesText
+unfolding value pick same indexOf _>>=_ at need nth primitive run all valueOf spelled begun wordAt before Readers._>>=_ Readers.give Readers.marked Readers.named Readers.isNext Readers.after Readers.mark Readers.aName Readers.ifNext Readers.restUpTo Readers.some Readers.any Grammar.factored Grammar.joined Grammar.chainUpTo Grammar.chain Grammar.factor Grammar.bounds Grammar.declared Grammar.vectored Grammar.aType Grammar.port Grammar.local Grammar.generics Grammar.ports Grammar.argument Grammar.arguments Grammar.calling Grammar.looping Grammar.stated Grammar.statement Grammar.body Grammar.aBlock Grammar.blocks Grammar.grammar Names.isWire Names.isVector Names.isIndex Names.roleOf Names.find Names.once Names.among Names.stands Names.expression Names.expressions Names.argument Names.arguments Resolve.called Resolve.statements Resolve.generics Resolve.sort Resolve.declarations Resolve.resolveBlock Resolve.resolveBlocks Resolve.mainOf Resolve.names Values.ranged Values.apply Values.eval Values.evals Values.rounds Values.width Values.shape Frames.offset Frames.blanks Frames.resolve Frames.resolves Frames.tie Frames.singles Frames.ends Unfold.tick Unfold.declare Unfold.gateOn Unfold.driven Unfold.emit Unfold.addGate Unfold.act Unfold.turns Unfold.unfolds Unfold.enter Unfold.deep Unfold.unfoldMain Netlist.gateWords Netlist.netWords Flatten.program Flatten.flattened flatText joined Flat.decimal Flat.between Flat.wireText Flat.entryText Flat.portsText Flat.varsText Flat.wiresText Flat.gateText Flat.gatesText
 edges = record {
   p1 = refl;
   p2 = refl;

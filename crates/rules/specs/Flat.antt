@@ -1,17 +1,13 @@
 -- 01, "One design from text to gates": the flat text of a netlist. Assumes nothing.
 use Prim.Native.Nat.{ℕ, zero, suc, _+_, _-_, _/_, _%_}
 use mathlib.Core.Bool.{Bool, true, false, cond}
-use mathlib.Core.List.{List, [], _∷_, _++_}
+use mathlib.Core.List.{List, [], _∷_}
+use lib.ListN.{length}
 use lib.Dec.{ltb}
 use Rattle.rules.specs.declared.Gate.{Gate}
-use Rattle.rules.specs.Text.{bytes}
+use Rattle.rules.specs.Text.{bytes, joined}
 use Rattle.rules.specs.Primitives.{primitive}
 use Rattle.rules.specs.Netlist.{inputs, outputs, wires, gates, gateAt, inputsAt}
-
--- pieces, one after the other
-unfoldable pub joined : List (List ℕ) → List ℕ
-joined [] = []
-joined (p ∷ ps) = p ++ joined ps
 
 -- a number below 10,000 in decimal, with no zero before it
 unfoldable pub decimal : ℕ → List ℕ
@@ -46,7 +42,7 @@ varsText s (suc n) = joined (bytes "VAR " ∷ entryText s ∷ bytes ";\n" ∷ va
 
 unfoldable pub wiresText : List ℕ → List ℕ
 wiresText [] = []
-wiresText (x ∷ xs) = joined (wireText x ∷ between (bytes ",") (lib.ListN.length xs) ∷ wiresText xs ∷ [])
+wiresText (x ∷ xs) = joined (wireText x ∷ between (bytes ",") (length xs) ∷ wiresText xs ∷ [])
 
 -- xor [w5,w1] [w6]
 unfoldable pub gateText : Gate → List ℕ

@@ -2,8 +2,9 @@
 use Prim.Native.Nat.{ℕ, _-_}
 use mathlib.Core.Bool.{Bool, true, false, _&&_}
 use mathlib.Core.List.{List, [], _∷_, _++_}
-use lib.ListN.{length, replicate}
+use lib.ListN.{length}
 use lib.Dec.{leb}
+use Rattle.rules.specs.Text.{zeros}
 use Rattle.rules.specs.Outcome.{Out, ok, refuse, _>>=_, need}
 use Rattle.rules.specs.Syntax.{Program}
 use Rattle.rules.specs.Grammar.{grammar}
@@ -30,9 +31,6 @@ pub record Answer : Type 0 where
   pub place : ℕ
   pub steps : ℕ
   pub words : List ℕ
-
-abbrev pub zeros : ℕ → List ℕ
-zeros n = replicate n 0
 
 -- "What a success does not use of a result buffer is zero"; "Every refusal leaves all result buffers zero and returns 0 for all but its
 -- number and place"

@@ -7,6 +7,7 @@ use mathlib.Core.List.{List, [], _∷_, _++_, map}
 use lib.ListN.{length, getD, take}
 use lib.IntN.{ℤ, sucℤ, _-ℤ_}
 use Rattle.rules.specs.declared.Gate.{Gate}
+use Rattle.rules.specs.Text.{joined}
 use Rattle.rules.specs.Outcome.{Out, ok, When, nth}
 use Rattle.rules.specs.Primitives.{primitive, inputsOf}
 use Rattle.rules.specs.Syntax.{Stmts, end, call, loop, Decl, Block, Callee, gate, block, Program}
@@ -82,11 +83,6 @@ BlockAllows blocks B vs ports =
 unfoldable pub AllowsAt : Program → ℕ → ℕ → Allowed
 AllowsAt P zero b vs ports = ⊥
 AllowsAt P (suc d) b vs ports = When (nth 7 (P .blocks) b) λ B. BlockAllows (AllowsAt P d) B vs ports
-
--- the ports' bits one after the other
-unfoldable pub joined : List (List Signal) → List Signal
-joined [] = []
-joined (p ∷ ps) = p ++ joined ps
 
 -- main allows these bits: they are those of its ports, inputs and then outputs, and calls of some depth allow them
 pub record Allows (P : Program) (bits : List Signal) : Type 0 where

@@ -1,10 +1,10 @@
--- Bytes of quoted texts, and finding a spelling in a list. Assumes nothing.
+-- Bytes of quoted texts, pieces of texts, and finding a spelling in a list. Assumes nothing.
 use Prim.Native.Nat.{ℕ, zero, suc, _+_}
 use Prim.Native.Char.{code}
 use Prim.Native.String.{String, [] as empty, _∷_ as _before_}
 use mathlib.Core.Bool.{Bool, true, false, _&&_}
-use mathlib.Core.List.{List, [], _∷_}
-use lib.ListN.{length}
+use mathlib.Core.List.{List, [], _∷_, _++_}
+use lib.ListN.{length, replicate}
 use lib.Dec.{ltb, eqb}
 
 -- a quoted text as bytes
@@ -16,6 +16,14 @@ bytes (c before t) = code c ∷ bytes t
 unfoldable pub pick {ℓ} : {A : Type ℓ} → Bool → A → A → A
 pick true a b = a
 pick false a b = b
+
+-- pieces, one after the other
+unfoldable pub joined : {A : Type 0} → List (List A) → List A
+joined [] = []
+joined (p ∷ ps) = p ++ joined ps
+
+abbrev pub zeros : ℕ → List ℕ
+zeros n = replicate n 0
 
 -- the same bytes
 unfoldable pub same : List ℕ → List ℕ → Bool

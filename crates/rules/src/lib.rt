@@ -19,7 +19,7 @@ pub struct Gate {
 }
 
 // The name of a primitive: so many letters, then zeros.
-pub struct Name {
+pub struct KindName {
     pub letters: [u8; 7],
     pub length: usize,
 }
@@ -47,51 +47,51 @@ impl Gate {
     pub const ONE: u16 = 9;
 
     // A kind's name; a number past the table has none.
-    pub fn name(kind: u16) -> Name
+    pub fn name(kind: u16) -> KindName
         ensures { λ r. ⌜ (r .length ≡ length (primitive kind .name)) × (r .letters ≡ primitive kind .name ++ replicate (7 - length (primitive kind .name)) 0) ⌝ }
     {
         match kind {
-            Gate::CONNECT => Name {
+            Gate::CONNECT => KindName {
                 letters: *b"connect",
                 length: 7,
             },
-            Gate::NOT => Name {
+            Gate::NOT => KindName {
                 letters: *b"not\0\0\0\0",
                 length: 3,
             },
-            Gate::AND => Name {
+            Gate::AND => KindName {
                 letters: *b"and\0\0\0\0",
                 length: 3,
             },
-            Gate::OR => Name {
+            Gate::OR => KindName {
                 letters: *b"or\0\0\0\0\0",
                 length: 2,
             },
-            Gate::XOR => Name {
+            Gate::XOR => KindName {
                 letters: *b"xor\0\0\0\0",
                 length: 3,
             },
-            Gate::NAND => Name {
+            Gate::NAND => KindName {
                 letters: *b"nand\0\0\0",
                 length: 4,
             },
-            Gate::NOR => Name {
+            Gate::NOR => KindName {
                 letters: *b"nor\0\0\0\0",
                 length: 3,
             },
-            Gate::MUX => Name {
+            Gate::MUX => KindName {
                 letters: *b"mux\0\0\0\0",
                 length: 3,
             },
-            Gate::ZERO => Name {
+            Gate::ZERO => KindName {
                 letters: *b"zero\0\0\0",
                 length: 4,
             },
-            Gate::ONE => Name {
+            Gate::ONE => KindName {
                 letters: *b"one\0\0\0\0",
                 length: 3,
             },
-            _ => Name {
+            _ => KindName {
                 letters: [0; 7],
                 length: 0,
             },

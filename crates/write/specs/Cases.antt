@@ -2,9 +2,9 @@
 use mathlib.Core.Path.{_≡_, refl}
 use mathlib.Core.List.{List, [], _∷_}
 use Prim.Native.Nat.{ℕ}
-use Rattle.rules.specs.Text.{bytes}
+use Rattle.rules.specs.Text.{bytes, joined}
 use Rattle.rules.specs.Primitives.{primitive}
-use Rattle.rules.specs.Flat.{joined, decimal, between, wireText, entryText, portsText, varsText, wiresText, gateText, gatesText, flatText}
+use Rattle.rules.specs.Flat.{decimal, between, wireText, entryText, portsText, varsText, wiresText, gateText, gatesText, flatText}
 
 -- 01, "One design from text to gates"
 abbrev pub odd : List ℕ

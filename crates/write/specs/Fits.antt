@@ -7,10 +7,10 @@ use native.Mathlib.Decide.{decLt}
 use lib.ListN.{length, take, length-append}
 use lib.Seq.{take-nil}
 use Rattle.rules.specs.declared.Gate.{Gate}
-use Rattle.rules.specs.Text.{bytes}
+use Rattle.rules.specs.Text.{bytes, joined}
 use Rattle.rules.specs.Primitives.{primitive, inputsOf}
 use Rattle.rules.specs.Netlist.{inputs, outputs, wires, gates, gateAt, inputsAt, WellFormed}
-use Rattle.rules.specs.Flat.{joined, decimal, between, wireText, entryText, portsText, varsText, wiresText, gateText, gatesText, flatText}
+use Rattle.rules.specs.Flat.{decimal, between, wireText, entryText, portsText, varsText, wiresText, gateText, gatesText, flatText}
 use Rattle.rules.specs.Laws.FlatOne.{decimal-1, decimal-2, decimal-3, decimal-4}
 
 -- the lengths of pieces, added up

@@ -8,10 +8,10 @@ use lib.ListN.{length, take}
 use lib.Dec.{ltb}
 use borrow.Author.Tests.{lt-ltb, le-ltb}
 use Rattle.rules.specs.declared.Gate.{Gate}
-use Rattle.rules.specs.Text.{bytes}
+use Rattle.rules.specs.Text.{bytes, joined}
 use Rattle.rules.specs.Primitives.{primitive, inputsOf}
 use Rattle.rules.specs.Netlist.{inputs, outputs, wires, gates, gateAt, inputsAt, Slot, Fine, WellFormed}
-use Rattle.rules.specs.Flat.{joined, between, wireText, entryText, portsText, varsText, wiresText, gateText, gatesText, flatText}
+use Rattle.rules.specs.Flat.{between, wireText, entryText, portsText, varsText, wiresText, gateText, gatesText, flatText}
 
 -- ---- between
 

@@ -6,7 +6,7 @@ use native.Mathlib.Omega.{arith}
 use native.Mathlib.Numerals.{add-one}
 use lib.ListN.{getD, set, length, take, length-append}
 use lib.Seq.{sets, length-sets, take-suc, take-all}
-use Rattle.rules.specs.Flat.{joined}
+use Rattle.rules.specs.Text.{joined}
 
 -- t with p from at on is u, and r is the next place
 pub record Put (t : List ℕ) (at : ℕ) (p : List ℕ) (r : ℕ) (u : List ℕ) : Type 0 where

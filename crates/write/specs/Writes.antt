@@ -8,7 +8,8 @@ use lib.Seq.{sets, sets-eq, take-at}
 use Rattle.rules.specs.declared.Gate.{Gate}
 use Rattle.rules.specs.Primitives.{primitive}
 use Rattle.rules.specs.Netlist.{WellFormed}
-use Rattle.rules.specs.Flat.{joined, between, wireText, flatText}
+use Rattle.rules.specs.Text.{joined}
+use Rattle.rules.specs.Flat.{between, wireText, flatText}
 use Rattle.clear.specs.Zeros.{zeros, zeros-long, drop-zeros}
 use Rattle.netlist.specs.Answers.{done, refused}
 use Rattle.write.specs.Wrote.{Wrote, short-text, bad-netlist, wrote}

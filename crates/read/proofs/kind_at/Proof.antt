@@ -4,7 +4,7 @@ use Rattle.compare.specs.Walk.{callOf}
 use Rattle.netlist.specs.Decides.{holds, fails}
 use Rattle.read.proofs.kind_at.Statement.{statement}
 use Rattle.read.specs.Ahead.{call-one, last-kind}
-use Rattle.rules.specs.Flat.{joined}
+use Rattle.rules.specs.Text.{joined}
 use borrow.Author.Count.{below-more}
 use borrow.Author.Needs.{needs}
 use native.Mathlib.Omega.{arith}

@@ -13,7 +13,8 @@ use Rattle.rules.specs.Values.{Env, generics, shape}
 use Rattle.rules.specs.Frames.{Sig, Frame, blanks, tie}
 use Rattle.rules.specs.Netlist.{inputs, outputs, netWords}
 use Rattle.rules.specs.Unfold.{Range, Wires, State, declare, Unfolded, unfoldMain}
-use Rattle.rules.specs.Meaning.{Signal, Bits, AllowsAt, BlockAllows, joined, Allows, carried, NetAllows}
+use Rattle.rules.specs.Text.{joined}
+use Rattle.rules.specs.Meaning.{Signal, Bits, AllowsAt, BlockAllows, Allows, carried, NetAllows}
 use Rattle.rules.specs.Laws.Outcomes.{ok-inj, inv, inv-at, bind-ok, yes-need, ok-when, when-inv, nth-any}
 use Rattle.rules.specs.Laws.Carried.{carried-length}
 use Rattle.rules.specs.Laws.Same.{start, declare-append, declare-grows, there, back}

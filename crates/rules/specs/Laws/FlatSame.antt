@@ -6,9 +6,9 @@ use native.Mathlib.Omega.{arith}
 use lib.ListN.{length, getD, take}
 use lib.Seq.{getD-take}
 use Rattle.rules.specs.declared.Gate.{Gate}
-use Rattle.rules.specs.Text.{bytes}
+use Rattle.rules.specs.Text.{bytes, joined}
 use Rattle.rules.specs.Netlist.{inputs, outputs, wires, gates, gateAt, records}
-use Rattle.rules.specs.Flat.{joined, between, gateText, gatesText, flatText}
+use Rattle.rules.specs.Flat.{between, gateText, gatesText, flatText}
 
 module _ (u v : List ℕ) (e : records u ≡ records v) where
   word-of : (w : List ℕ) (i : ℕ) → i < 4 + 5 * gates w → getD (records w) i 0 ≡ getD w i 0

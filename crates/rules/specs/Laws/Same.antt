@@ -16,7 +16,8 @@ use Rattle.rules.specs.Values.{Env, generics, bound, eval, evals, rounds
 use Rattle.rules.specs.Frames.{Cells, Sig, Frame, blanks, resolves, tie, singles, ends}
 use Rattle.rules.specs.Netlist.{inputsAt, gateWords, netWords}
 use Rattle.rules.specs.Unfold.{Range, Wires, State, tick, declare, gateOn, emit, Act, addGate, act, turns, unfolds, enter, deep, Unfolded, unfoldMain}
-use Rattle.rules.specs.Meaning.{Signal, dark, makes, Bits, bit, Allowed, GateAllows, CalleeAllows, Each, Holds, Some, BlockAllows, AllowsAt, joined, GateHolds, carried, NetAllows}
+use Rattle.rules.specs.Text.{joined}
+use Rattle.rules.specs.Meaning.{Signal, dark, makes, Bits, bit, Allowed, GateAllows, CalleeAllows, Each, Holds, Some, BlockAllows, AllowsAt, GateHolds, carried, NetAllows}
 use Rattle.rules.specs.Laws.Outcomes.{no-ok, ok-inj, inv, inv-at, ok-at, bind-ok, need-yes, when-ok, ok-when, when-inv, nth-any, both-yes, map-ok}
 use Rattle.rules.specs.Laws.Carried.{Load, Agree, agree-below, carried-agree, carried-split, over, over-agree, over-read, map-append}
 use Rattle.rules.specs.Laws.Natural.{read, view, nat-blanks, nat-resolves, nat-tie, Fixed, FixedR, fixed-above, fixed-resolves, fixed-tie, nat-ends, single-bits, single-at}

@@ -6,7 +6,8 @@ use lib.ListN.{length}
 use Rattle.rules.specs.Outcome.{Out, ok, _>>=_, need}
 use Rattle.rules.specs.Syntax.{Program}
 use Rattle.rules.specs.Unfold.{Unfolded, unfoldMain}
-use Rattle.rules.specs.Flatten.{program, flattened, zeros, answer, flatten}
+use Rattle.rules.specs.Text.{zeros}
+use Rattle.rules.specs.Flatten.{program, flattened, answer, flatten}
 use Rattle.rules.specs.Laws.Outcomes.{inv}
 use Rattle.rules.specs.Laws.Late.{done}
 
