@@ -17,7 +17,8 @@ use Rattle.rules.specs.Run.{Known, given, made, AllKnown, toByte, fromByte, Inp
 use Rattle.clear.specs.Zeros.{zeros, zeros-at}
 use Rattle.netlist.specs.Answers.{refused}
 use Rattle.run.specs.Ran.{Ran, short-values, bad-netlist, wrong-inputs}
-use Rattle.run.specs.Known.{byte-bit, from-to, to-from, input-bit, known-one}
+use Rattle.rules.specs.Laws.Bytes.{byte-below, from-to, to-from, input-bit}
+use Rattle.rules.specs.Laws.Runs.{functional}
 use Rattle.run.specs.Going.{Pin, Ready, none, more, Wants, here, later, bitsAt, Still, has, wants, Visit, settles, stays, twos, Sweep, same, fewer, Going, First, input, other}
 
 -- ---- the wires of a gate
@@ -185,7 +186,7 @@ module _ (w : List ℕ) (wf : WellFormed w) (ins : List ℕ) (ok : Inputs w ins)
       let lo : o < length v = omega (arith, f .out, wf .few-wires) in
       record {
         input = λ i a. set-at v o _ i (λ (b : ℕ). b ≡ getD ins i 0) lo (λ e. absurd (omega (arith, f .free))) (λ n. g .input i a);
-        bit = λ i a. set-at v o _ i (λ (b : ℕ). (b ≡ 2 → ⊥) → b < 2) lo (λ e n. byte-bit m) (λ n. g .bit i a);
+        bit = λ i a. set-at v o _ i (λ (b : ℕ). (b ≡ 2 → ⊥) → b < 2) lo (λ e n. byte-below m) (λ n. g .bit i a);
         sound = λ i a. set-at v o _ i (λ (b : ℕ). (b ≡ 2 → ⊥) → Known w (map fromByte ins) i (fromByte b)) lo (λ e n. rw (e, from-to m) k) (λ n. g .sound i a);
         rest = λ i a. set-at v o _ i (λ (b : ℕ). b ≡ 0) lo (λ e. absurd (omega (arith, f .out))) (λ n. g .rest i a);
       }
@@ -195,7 +196,7 @@ module _ (w : List ℕ) (wf : WellFormed w) (ins : List ℕ) (ok : Inputs w ins)
   sweep-more l h (fewer f) (stays s) = fewer f
   sweep-more {v₀} {v} {u} {n} {c} l h d (settles t r) =
       let lo : gateAt w n .out < length v = omega (arith, wf .fine n h .out, wf .few-wires) in
-      fewer (less-twos w v₀ v n _ c d (set-twos v (gateAt w n .out) _ lo t (byte-bit _)))
+      fewer (less-twos w v₀ v n _ c d (set-twos v (gateAt w n .out) _ lo t (byte-below _)))
 
   -- ---- at the end
 
@@ -207,11 +208,11 @@ module _ (w : List ℕ) (wf : WellFormed w) (ins : List ℕ) (ok : Inputs w ins)
     at-gate : {b : Signal} (j : ℕ) → j < gates w → Known w (map fromByte ins) (gateAt w j .out) b → Ready v (inputsAt (gateAt w j)) → Still w v j → getD v (gateAt w j .out) 0 ≡ toByte b
     at-gate j h k r (has n) =
         let o = wf .fine j h .out in
-        sym (to-from _ (go .bit _ o n)) ∙ ap toByte (known-one w wf (map fromByte ins) (go .sound _ o n) k)
+        sym (to-from _ (go .bit _ o n)) ∙ ap toByte (functional w wf (map fromByte ins) (go .sound _ o n) k)
     at-gate j h k r (wants u) = absurd (wants-not r u)
 
     no-two : (i : ℕ) (b : Signal) → getD v i 0 ≡ toByte b → getD v i 0 ≡ 2 → ⊥
-    no-two i b e f = omega (arith, byte-bit b)
+    no-two i b e f = omega (arith, byte-below b)
 
     mutual
       all-shown : {i : ℕ} {b : Signal} → Known w (map fromByte ins) i b → getD v i 0 ≡ toByte b

@@ -8,6 +8,7 @@ use lib.ListN.{getD}
 use Rattle.rules.specs.Primitives.{primitive}
 use Rattle.rules.specs.Netlist.{gateAt, inputsAt}
 use Rattle.rules.specs.Meaning.{Signal, dark, makes, GateHolds, NetAllows}
+use Rattle.rules.specs.Laws.Bytes.{from-to}
 use Rattle.rules.specs.Run.{Known, given, made, AllKnown, none, more, toByte, fromByte, Shown, settled, unsettled}
 
 -- P9: one wire, fed back through not
@@ -41,16 +42,11 @@ ring-allows-nothing bits n = go (n .wires 0) (n .hold 0 (omega arith))
 abbrev pub choice : List ℕ
 choice = 3 ∷ 1 ∷ 4 ∷ 1 ∷ 7 ∷ 0 ∷ 1 ∷ 2 ∷ 3 ∷ []
 
-round-trip : (b : Signal) → fromByte (toByte b) ≡ b
-unfolding Signal toByte fromByte
-round-trip true = refl
-round-trip false = refl
-
 mux-known : (c : ℕ) (u v : Signal) → Known choice (map fromByte (c ∷ toByte u ∷ toByte v ∷ [])) 3 (makes 7 (fromByte c ∷ u ∷ v ∷ []))
 unfolding primitive
 mux-known c u v =
     let in-at : (k : ℕ) (b : Signal) → k < 3 → getD (fromByte c ∷ fromByte (toByte u) ∷ fromByte (toByte v) ∷ []) k dark ≡ b → Known choice (fromByte c ∷ fromByte (toByte u) ∷ fromByte (toByte v) ∷ []) k b = λ k b h e. given h e in
-    made 0 (omega arith) refl (more (in-at 0 (fromByte c) (omega arith) refl) (more (in-at 1 u (omega arith) (round-trip u)) (more (in-at 2 v (omega arith) (round-trip v)) none))) refl
+    made 0 (omega arith) refl (more (in-at 0 (fromByte c) (omega arith) refl) (more (in-at 1 u (omega arith) (from-to u)) (more (in-at 2 v (omega arith) (from-to v)) none))) refl
 
 -- u if c is 0, else v
 pub chosen : (u v : Signal) → Shown choice (0 ∷ toByte u ∷ toByte v ∷ []) 3 (toByte u) × Shown choice (1 ∷ toByte u ∷ toByte v ∷ []) 3 (toByte v)
