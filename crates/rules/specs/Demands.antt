@@ -21,7 +21,7 @@ use Rattle.rules.specs.Laws.Keep.{unfolded-well}
 use Rattle.rules.specs.Laws.Runs.{outs, allowed, only}
 use Rattle.rules.specs.Laws.Shows.{shown-bit, shown-settled, port-right}
 use Rattle.rules.specs.Laws.FlatOne.{flat-one}
-use Rattle.rules.specs.Laws.FlatSame.{flat-same}
+use Rattle.rules.specs.Laws.Records.{flat-same}
 
 -- flat text and netlist determine each other: no two well-formed netlists have one text, and one netlist has one
 pub one-text : (u v : List ℕ) → WellFormed u → WellFormed v → (flatText u ≡ flatText v) ↔ (records u ≡ records v)

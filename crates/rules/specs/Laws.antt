@@ -16,7 +16,7 @@ pub mod Rings
 pub mod Scoped
 pub mod Late
 pub mod FlatOne
-pub mod FlatSame
+pub mod Records
 pub mod Ways
 pub mod Shows
 pub mod Spelt

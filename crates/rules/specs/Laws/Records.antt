@@ -1,4 +1,4 @@
--- The text of a netlist is that of its records: words after them do not matter. Assumes nothing.
+-- A netlist is its records: words after them do not matter, neither for its text nor for its being well formed. Assumes nothing.
 use mathlib.Core.Path.{_≡_, refl, sym, ap, _∙_}
 use mathlib.Core.List.{List, [], _∷_}
 use Prim.Native.Nat.{ℕ, zero, suc, _+_, _-_, _*_, _≤_, _<_}
@@ -7,7 +7,7 @@ use lib.ListN.{length, getD, take}
 use lib.Seq.{getD-take}
 use Rattle.rules.specs.declared.Gate.{Gate}
 use Rattle.rules.specs.Text.{bytes, joined}
-use Rattle.rules.specs.Netlist.{inputs, outputs, wires, gates, gateAt, records}
+use Rattle.rules.specs.Netlist.{inputs, outputs, wires, gates, gateAt, WellFormed, records}
 use Rattle.rules.specs.Flat.{between, gateText, gatesText, flatText}
 
 module _ (u v : List ℕ) (e : records u ≡ records v) where
@@ -32,6 +32,24 @@ module _ (u v : List ℕ) (e : records u ≡ records v) where
       let c = word (4 + 5 * i + 3) (omega arith) in
       let o = word (4 + 5 * i + 4) (omega arith) in
       rw (k, a, b, c, o)
+
+  -- where the words reach as far as the records
+  pub well-same : WellFormed u → 4 + 5 * gates v ≤ length v → WellFormed v
+  well-same wf l =
+      let ins = word 0 (omega arith) in
+      let outs = word 1 (omega arith) in
+      let ws = word 2 (omega arith) in
+      let below : (i : ℕ) → i < gates v → i < gates u = λ i h. omega (arith, same-gates) in
+      let out : (i : ℕ) → i < gates v → gateAt v i .out ≡ gateAt u i .out = λ i h. ap (λ g. g .out) (sym (same-gate i (below i h))) in
+      record {
+        contents = omega arith;
+        ports = omega (arith, ins, outs, ws, wf .ports);
+        few-wires = omega (arith, ws, wf .few-wires);
+        few-gates = omega (arith, same-gates, wf .few-gates);
+        records = l;
+        fine = λ i h. rw (← ws, ← ins, ← (same-gate i (below i h))) (wf .fine i (below i h));
+        once = λ i j h k e. wf .once i j h (below j k) (sym (out i (omega arith)) ∙ e ∙ out j k);
+      }
 
   same-lines : (n i : ℕ) → i + n ≤ gates u → gatesText u i n ≡ gatesText v i n
   unfolding gatesText
