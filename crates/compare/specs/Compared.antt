@@ -1,7 +1,7 @@
 -- The promises of `calls` and `written_as`. Assumes nothing.
 use mathlib.Core.Path.{_≡_}
 use mathlib.Core.Bool.{Bool}
-use mathlib.Core.List.{List, [], _∷_}
+use mathlib.Core.List.{List}
 use Prim.Native.Nat.{ℕ}
 use Rattle.rules.specs.Netlist.{WellFormed}
 use Rattle.rules.specs.Text.{joined}

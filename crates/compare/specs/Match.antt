@@ -1,11 +1,10 @@
 -- What stands at a place of a text, and pieces seen one after the other. Assumes nothing.
 use mathlib.Core.Path.{_≡_, refl, sym, ap, subst, _∙_}
 use mathlib.Core.List.{List, [], _∷_, _++_, append-assoc, append-nil}
-use Prim.Native.Nat.{ℕ, zero, suc, _+_, _-_, _≤_, _<_}
+use Prim.Native.Nat.{ℕ, _+_, _-_, _≤_, _<_}
 use native.Mathlib.Omega.{arith}
-use native.Mathlib.Numerals.{add-one}
 use lib.ListN.{getD, length, take, drop, length-append, length-drop, List·getD-append}
-use lib.Seq.{drop-drop, drop-append-seam, getD-drop, take-append-seam, length-take-le, getD-take, ext-getD, drop-length}
+use lib.Seq.{drop-drop, drop-append-seam, getD-drop, length-take-le, getD-take, ext-getD, drop-length}
 use Rattle.rules.specs.Text.{joined}
 use Rattle.write.specs.Put.{joined-append}
 use Rattle.compare.specs.declared.Seen.{Seen}

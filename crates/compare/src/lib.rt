@@ -1,14 +1,12 @@
 // Whether a netlist is written as a text: the text is walked piece by piece as writing would write it, with no second text.
 use rules::Gate;
-ghost use mathlib.Core.Path.{_≡_};
 ghost use mathlib.Core.List.{[], _∷_};
 ghost use Prim.Native.Nat.{_+_, _<_, _≤_};
 ghost use lib.ListN.{length};
 ghost use Rattle.rules.specs.Primitives.{primitive};
-ghost use Rattle.rules.specs.Netlist.{gates, inputsAt, Fine, WellFormed};
+ghost use Rattle.rules.specs.Netlist.{gates, inputsAt, WellFormed};
 ghost use Rattle.rules.specs.Text.{joined};
 ghost use Rattle.rules.specs.Flat.{decimal, between, wireText, entryText, portsText, varsText, wiresText, gateText, gatesText};
-ghost use Rattle.netlist.specs.Decides.{Decides};
 ghost use Rattle.write.specs.Pieces.{slotText};
 ghost use Rattle.compare.specs.Compared.{Calls, WrittenAs};
 ghost use Rattle.compare.specs.Match.{Match};
@@ -38,38 +36,15 @@ fn see(text: &[u8], at: usize, piece: &[u8]) -> Seen
     Seen::To(at + i)
 }
 
-// A digit as its byte.
-fn digit(n: u16) -> u8
-    requires { ⌜ n < 10 ⌝ }
-    ensures { λ r. ⌜ r ≡ 48 + n ⌝ }
-{
-    b'0' + n as u8
-}
-
 // A number in decimal, with no zero before it.
 fn see_number(text: &[u8], at: usize, n: u16) -> Seen
-    requires { ⌜ (at ≤ length (now text)) × (n < 10000) ⌝ }
+    requires { ⌜ at ≤ length (now text) ⌝ }
     ensures { λ r. ⌜ Match (now (text .entry)) at (decimal n) r ⌝ }
 {
-    if n < 10 {
-        let s = [digit(n)];
-        return see(text, at, &s);
-    }
-    if n < 100 {
-        let s = [digit(n / 10), digit(n % 10)];
-        return see(text, at, &s);
-    }
-    if n < 1000 {
-        let s = [digit(n / 100), digit(n / 10 % 10), digit(n % 10)];
-        return see(text, at, &s);
-    }
-    let s = [
-        digit(n / 1000),
-        digit(n / 100 % 10),
-        digit(n / 10 % 10),
-        digit(n % 10),
-    ];
-    see(text, at, &s)
+    let number = netlist::decimal_of(n);
+    let digits = number.digits;
+    let k = number.length;
+    see(text, at, &digits[..k])
 }
 
 // A mark where more follow: none after the last.
@@ -86,7 +61,7 @@ fn see_between(text: &[u8], at: usize, b: u8, more: u16) -> Seen
 
 // w5
 fn see_wire(text: &[u8], at: usize, wire: u16) -> Seen
-    requires { ⌜ (at ≤ length (now text)) × (wire < 10000) ⌝ }
+    requires { ⌜ at ≤ length (now text) ⌝ }
     ensures { λ r. ⌜ Match (now (text .entry)) at (wireText wire) r ⌝ }
 {
     let Seen::To(a) = see(text, at, b"w") else {
@@ -97,7 +72,7 @@ fn see_wire(text: &[u8], at: usize, wire: u16) -> Seen
 
 // w5:WIRE
 fn see_entry(text: &[u8], at: usize, wire: u16) -> Seen
-    requires { ⌜ (at ≤ length (now text)) × (wire < 10000) ⌝ }
+    requires { ⌜ at ≤ length (now text) ⌝ }
     ensures { λ r. ⌜ Match (now (text .entry)) at (entryText wire) r ⌝ }
 {
     let Seen::To(a) = see_wire(text, at, wire) else {
@@ -108,7 +83,7 @@ fn see_entry(text: &[u8], at: usize, wire: u16) -> Seen
 
 // So many ports from wire s on, and the end of their line.
 fn see_ports(text: &[u8], at: usize, s: u16, n: u16) -> Seen
-    requires { ⌜ (at ≤ length (now text)) × (s + n < 10000) ⌝ }
+    requires { ⌜ (at ≤ length (now text)) × (s + n < 65536) ⌝ }
     ensures { λ r. ⌜ Match (now (text .entry)) at (portsText s n) r ⌝ }
 {
     let mut p = at;
@@ -128,7 +103,7 @@ fn see_ports(text: &[u8], at: usize, s: u16, n: u16) -> Seen
 
 // So many other wires from wire s on, a line each.
 fn see_vars(text: &[u8], at: usize, s: u16, n: u16) -> Seen
-    requires { ⌜ (at ≤ length (now text)) × (s + n < 10000) ⌝ }
+    requires { ⌜ (at ≤ length (now text)) × (s + n < 65536) ⌝ }
     ensures { λ r. ⌜ Match (now (text .entry)) at (varsText s n) r ⌝ }
 {
     let mut p = at;
@@ -162,7 +137,7 @@ fn see_name(text: &[u8], at: usize, kind: u16) -> Seen
 
 // Slot k, which holds x, of a gate with n inputs: nothing where the kind does not use it.
 fn see_slot(text: &[u8], at: usize, n: usize, k: usize, x: u16) -> Seen
-    requires { ⌜ (at ≤ length (now text)) × ((k < n → x < 10000)) ⌝ }
+    requires { ⌜ at ≤ length (now text) ⌝ }
     ensures { λ r. ⌜ Match (now (text .entry)) at (slotText n k x) r ⌝ }
 {
     if k < n {
@@ -179,7 +154,6 @@ fn see_slot(text: &[u8], at: usize, n: usize, k: usize, x: u16) -> Seen
 
 // The input wires of a gate.
 fn see_slots(text: &[u8], at: usize, g: Gate) -> Seen
-    requires { ⌜ Fine 1536 0 g ⌝ }
     requires { ⌜ at ≤ length (now text) ⌝ }
     ensures { λ r. ⌜ Match (now (text .entry)) at (wiresText (inputsAt g)) r ⌝ }
 {
@@ -206,7 +180,6 @@ fn see_call(text: &[u8], at: usize, kind: u16) -> Seen
 
 // xor [w5,w1] [w6]
 fn see_gate(text: &[u8], at: usize, g: Gate) -> Seen
-    requires { ⌜ Fine 1536 0 g ⌝ }
     requires { ⌜ at ≤ length (now text) ⌝ }
     ensures { λ r. ⌜ Match (now (text .entry)) at (gateText g) r ⌝ }
 {

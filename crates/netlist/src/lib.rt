@@ -1,8 +1,10 @@
-// The words of a netlist, when they are well formed, and the answers of the jobs on netlists.
+// The words of a netlist, when they are well formed, how a wire is numbered, and the answers of the jobs on netlists.
 use rules::Gate;
 ghost use mathlib.Core.Path.{_≡_};
-ghost use Prim.Native.Nat.{ℕ, _<_};
-ghost use lib.ListN.{getD};
+ghost use mathlib.Core.List.{_++_};
+ghost use Prim.Native.Nat.{_+_, _-_, _<_};
+ghost use lib.ListN.{length, getD, replicate};
+ghost use Rattle.rules.specs.Flat.{decimal};
 ghost use Rattle.rules.specs.Netlist.{gateAt, Slot, Fine};
 ghost use Rattle.netlist.specs.Decides.{Decides};
 ghost use Rattle.netlist.specs.Judged.{Judged};
@@ -50,6 +52,45 @@ pub fn gate_at(words: &[u16], i: u16) -> Gate
         c: word(words, at + 3),
         out: word(words, at + 4),
     }
+}
+
+// A number as its digits: so many, then zeros.
+pub struct Digits {
+    pub digits: [u8; 4],
+    pub length: usize,
+}
+
+// A digit as its byte.
+fn digit(n: u16) -> u8
+    requires { ⌜ n < 100 ⌝ }
+    ensures { λ r. ⌜ r ≡ 48 + n ⌝ }
+{
+    b'0' + n as u8
+}
+
+// The number of a wire in decimal, with no zero before it: four digits are enough for 1,536 wires.
+pub fn decimal_of(n: u16) -> Digits
+    ensures { λ r. ⌜ (r .length ≡ length (decimal n)) × (r .digits ≡ decimal n ++ replicate (4 - length (decimal n)) 0) ⌝ }
+{
+    if n < 10 {
+        let digits = [digit(n), 0, 0, 0];
+        return Digits { digits, length: 1 };
+    }
+    if n < 100 {
+        let digits = [digit(n / 10), digit(n % 10), 0, 0];
+        return Digits { digits, length: 2 };
+    }
+    if n < 1000 {
+        let digits = [digit(n / 100), digit(n / 10 % 10), digit(n % 10), 0];
+        return Digits { digits, length: 3 };
+    }
+    let digits = [
+        digit(n / 1000),
+        digit(n / 100 % 10),
+        digit(n / 10 % 10),
+        digit(n % 10),
+    ];
+    Digits { digits, length: 4 }
 }
 
 // Slot k of a gate with n inputs holds a wire where the kind uses it, else 65,535.

@@ -4,13 +4,13 @@ use mathlib.Core.List.{List, [], _∷_, _++_, append-assoc}
 use Prim.Native.Nat.{ℕ, zero, suc, _+_, _-_, _*_, _/_, _%_, _≤_, _<_}
 use native.Mathlib.Omega.{arith}
 use native.Mathlib.Decide.{decLt}
-use lib.ListN.{getD, length, take, drop, length-append, length-drop, List·getD-eq-default}
+use lib.ListN.{getD, length, drop, length-append, length-drop, List·getD-eq-default}
 use lib.Seq.{drop-drop, drop-append-seam, getD-drop}
 use Rattle.rules.specs.declared.Gate.{Gate}
 use Rattle.rules.specs.Text.{bytes, joined}
 use Rattle.rules.specs.Primitives.{primitive, inputsOf}
-use Rattle.rules.specs.Netlist.{inputsAt, Slot, Fine}
-use Rattle.rules.specs.Flat.{decimal, between, wireText, wiresText, gateText}
+use Rattle.rules.specs.Netlist.{Slot, Fine}
+use Rattle.rules.specs.Flat.{decimal, between, wireText, gateText}
 use Rattle.rules.specs.Laws.FlatOne.{tens-4, decimal-1, decimal-2, decimal-3, decimal-4, name-one}
 use Rattle.write.specs.Put.{joined-append}
 use Rattle.write.specs.Pieces.{between-none, between-some, slotText, slot-used, slot-free, slotsOf, slots-of, gateOf, gate-of}

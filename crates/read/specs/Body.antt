@@ -9,10 +9,10 @@ use lib.Seq.{sets, sets-eq, take-suc, length-take-le, length-sets, drop-at}
 use Rattle.rules.specs.declared.Gate.{Gate}
 use Rattle.rules.specs.Text.{bytes, joined}
 use Rattle.rules.specs.Netlist.{inputs, outputs, wires, gates, gateAt, Fine, WellFormed, records}
-use Rattle.rules.specs.Flat.{between, portsText, varsText, gateText, gatesText, flatText}
+use Rattle.rules.specs.Flat.{portsText, varsText, gateText, gatesText, flatText}
 use Rattle.rules.specs.Laws.FlatOne.{gate-first}
 use Rattle.write.specs.Put.{Put, put-none, put-then, put-is}
-use Rattle.write.specs.Pieces.{gates-begin, gates-open, gates-close, fine-as, parts, parts-of}
+use Rattle.write.specs.Pieces.{gates-open, gates-close, fine-as, parts, parts-of}
 use Rattle.read.specs.Ahead.{Ahead, room, pass, here, apart}
 use Rattle.read.specs.Loops.{After, mark-pass}
 

@@ -7,7 +7,7 @@ use native.Mathlib.Decide.{decLt}
 use lib.ListN.{getD, length, length-append}
 use Rattle.rules.specs.Text.{bytes, joined}
 use Rattle.rules.specs.Flat.{decimal, between, wireText, entryText, portsText, varsText}
-use Rattle.write.specs.Pieces.{between-none, ports-begin, ports-open, ports-close, vars-begin, vars-open, vars-close}
+use Rattle.write.specs.Pieces.{ports-begin, ports-open, ports-close, vars-begin, vars-open, vars-close}
 use Rattle.read.specs.Ahead.{Ahead, room, pass, here, apart}
 
 -- r is one place after q where b stands at q, else q

@@ -1,15 +1,15 @@
 -- Reading undoes writing, and writing undoes reading: theorems over the promises of `write` and `read`. Assumes nothing.
-use mathlib.Core.Path.{_≡_, refl, sym, ap, subst, _∙_}
-use mathlib.Core.List.{List, [], _∷_, _++_}
-use Prim.Native.Nat.{ℕ, _-_, _≤_, _<_}
+use mathlib.Core.Path.{_≡_, refl, sym, ap, _∙_}
+use mathlib.Core.List.{List, _++_}
+use Prim.Native.Nat.{ℕ, _-_, _≤_}
 use native.Mathlib.Omega.{arith}
 use lib.ListN.{length, take}
 use lib.Seq.{take-at}
 use Rattle.rules.specs.Netlist.{WellFormed, records}
 use Rattle.rules.specs.Flat.{flatText}
 use Rattle.clear.specs.Zeros.{zeros}
-use Rattle.netlist.specs.Answers.{Told, done, refused}
-use Rattle.write.specs.Wrote.{Wrote, short-text, bad-netlist, wrote, wrote-one}
+use Rattle.netlist.specs.Answers.{Told, done}
+use Rattle.write.specs.Wrote.{Wrote, wrote, wrote-one}
 use Rattle.read.specs.WasRead.{WasRead, short-netlist, no-netlist, was-read, read-one}
 use Rattle.read.specs.Again.{well-again, text-again, records-again}
 

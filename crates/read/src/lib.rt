@@ -124,16 +124,8 @@ fn read_number(text: &[u8], at: usize) -> u16
 fn width(n: u16) -> usize
     ensures { λ r. ⌜ (r ≡ length (decimal n)) × (r ≤ 4) ⌝ }
 {
-    if n < 10 {
-        return 1;
-    }
-    if n < 100 {
-        return 2;
-    }
-    if n < 1000 {
-        return 3;
-    }
-    4
+    let number = netlist::decimal_of(n);
+    number.length
 }
 
 // A number and the place after it.

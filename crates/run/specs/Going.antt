@@ -5,7 +5,7 @@ use mathlib.Core.List.{List, [], _∷_, map}
 use Prim.Native.Nat.{ℕ, _+_, _≤_, _<_}
 use lib.ListN.{getD, length, set}
 use lib.Dec.{eqb}
-use Rattle.rules.specs.Netlist.{inputs, wires, gates, gateAt, inputsAt}
+use Rattle.rules.specs.Netlist.{inputs, wires, gateAt, inputsAt}
 use Rattle.rules.specs.Meaning.{Signal, makes}
 use Rattle.rules.specs.Run.{Known, toByte, fromByte}
 

@@ -1,6 +1,6 @@
 -- Every well-formed netlist's text fits 65,536 bytes. Assumes nothing.
 use mathlib.Core.Path.{_≡_, refl, ap, _∙_}
-use mathlib.Core.List.{List, [], _∷_, _++_}
+use mathlib.Core.List.{List, [], _∷_}
 use Prim.Native.Nat.{ℕ, zero, suc, _+_, _-_, _*_, _≤_, _<_}
 use native.Mathlib.Omega.{arith}
 use native.Mathlib.Decide.{decLt}
@@ -23,7 +23,7 @@ unfolding joined sizes
 joined-size [] = refl
 joined-size (p ∷ ps) = length-append p (joined ps) ∙ ap (λ (n : ℕ). length p + n) (joined-size ps)
 
-decimal-most : (n : ℕ) → length (decimal n) ≤ 4
+pub decimal-most : (n : ℕ) → length (decimal n) ≤ 4
 decimal-most n = go (decLt n 10) (decLt n 100) (decLt n 1000)
   where
     go : Dec (n < 10) → Dec (n < 100) → Dec (n < 1000) → length (decimal n) ≤ 4

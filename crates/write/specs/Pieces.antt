@@ -1,16 +1,16 @@
 -- The pieces of a flat text as code meets them: slot by slot, and a list's first entry apart from the rest. Assumes nothing.
 use mathlib.Core.Path.{_≡_, refl, sym, ap, subst, _∙_}
 use mathlib.Core.Bool.{cond}
-use mathlib.Core.List.{List, [], _∷_, _++_, append-assoc, append-nil}
+use mathlib.Core.List.{List, [], _∷_, append-assoc, append-nil}
 use Prim.Native.Nat.{ℕ, zero, suc, _+_, _-_, _≤_, _<_}
 use native.Mathlib.Omega.{arith}
-use lib.ListN.{length, take}
+use lib.ListN.{take}
 use lib.Dec.{ltb}
 use borrow.Author.Tests.{lt-ltb, le-ltb}
 use Rattle.rules.specs.declared.Gate.{Gate}
 use Rattle.rules.specs.Text.{bytes, joined}
 use Rattle.rules.specs.Primitives.{primitive, inputsOf}
-use Rattle.rules.specs.Netlist.{inputs, outputs, wires, gates, gateAt, inputsAt, Slot, Fine, WellFormed}
+use Rattle.rules.specs.Netlist.{inputs, outputs, wires, gates, gateAt, inputsAt, Fine, WellFormed}
 use Rattle.rules.specs.Flat.{between, wireText, entryText, portsText, varsText, wiresText, gateText, gatesText, flatText}
 
 -- ---- between
@@ -156,7 +156,3 @@ fine-as {w} {j} wf h e =
       out = omega (arith, f .out);
       free = omega arith;
     })
-
--- a wire in a slot that the kind uses
-pub small : {n m x : ℕ} (k : ℕ) → n ≡ m → Slot m 1536 k x → k < n → x < 10000
-small k e s h = omega (arith, s .0 (subst (λ (m : ℕ). k < m) e h))

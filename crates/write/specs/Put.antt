@@ -1,11 +1,11 @@
 -- Writing pieces one after the other into lent memory. Assumes nothing.
 use mathlib.Core.Path.{_≡_, refl, sym, ap, subst, _∙_}
 use mathlib.Core.List.{List, [], _∷_, _++_, append-assoc, append-nil}
-use Prim.Native.Nat.{ℕ, zero, suc, _+_, _≤_, _<_}
+use Prim.Native.Nat.{ℕ, suc, _+_, _≤_, _<_}
 use native.Mathlib.Omega.{arith}
 use native.Mathlib.Numerals.{add-one}
 use lib.ListN.{getD, set, length, take, length-append}
-use lib.Seq.{sets, length-sets, take-suc, take-all}
+use lib.Seq.{sets, length-sets, take-suc}
 use Rattle.rules.specs.Text.{joined}
 
 -- t with p from at on is u, and r is the next place

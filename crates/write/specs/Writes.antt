@@ -1,40 +1,25 @@
 -- Laws that the writer's proofs cite. Assumes nothing.
-use mathlib.Core.Path.{_≡_, refl, sym, ap, subst, _∙_}
+use mathlib.Core.Path.{_≡_, sym, ap, subst, _∙_}
 use mathlib.Core.List.{List, [], _∷_, _++_}
 use Prim.Native.Nat.{ℕ, _+_, _-_, _≤_, _<_}
 use native.Mathlib.Omega.{arith}
 use lib.ListN.{length, drop, take, length-append}
 use lib.Seq.{sets, sets-eq, take-at}
-use Rattle.rules.specs.declared.Gate.{Gate}
-use Rattle.rules.specs.Primitives.{primitive}
 use Rattle.rules.specs.Netlist.{WellFormed}
-use Rattle.rules.specs.Text.{joined}
-use Rattle.rules.specs.Flat.{between, wireText, flatText}
+use Rattle.rules.specs.Flat.{between, flatText}
 use Rattle.clear.specs.Zeros.{zeros, zeros-long, drop-zeros}
 use Rattle.netlist.specs.Answers.{done, refused}
 use Rattle.write.specs.Wrote.{Wrote, short-text, bad-netlist, wrote}
-use Rattle.write.specs.Put.{Put, put-none, put-is, Writing, begin, apart, room-of, step, finish}
-use Rattle.write.specs.Pieces.{between-none, between-some, slotText, slot-used, slot-free}
+use Rattle.write.specs.Put.{Put}
+use Rattle.write.specs.Pieces.{between-some}
 use Rattle.write.specs.Fits.{flat-fits}
 
-pub digits-2 : {a b c d : ℕ} → a ≡ c → b ≡ d → a ∷ b ∷ [] ≡ c ∷ d ∷ []
-digits-2 e f = cc
+-- a word that is held with zeros after it is what its first letters are
+pub first-ones : (w : List ℕ) (m : ℕ) {l : List ℕ} {n : ℕ} → n ≡ length w → l ≡ w ++ zeros (m - length w) → take n l ≡ w
+first-ones w m {l} {n} e f = ap (λ (l : List ℕ). take n l) f ∙ take-at w (zeros (m - length w)) n (sym e)
 
-pub digits-3 : {a b c x y z : ℕ} → a ≡ x → b ≡ y → c ≡ z → a ∷ b ∷ c ∷ [] ≡ x ∷ y ∷ z ∷ []
-digits-3 e f g = cc
-
-pub digits-4 : {a b c d x y z u : ℕ} → a ≡ x → b ≡ y → c ≡ z → d ≡ u → a ∷ b ∷ c ∷ d ∷ [] ≡ x ∷ y ∷ z ∷ u ∷ []
-digits-4 e f g h = cc
-
--- the letters of a name are its first ones
-abbrev nameOf : ℕ → List ℕ
-nameOf kind = primitive kind .name
-
-pub letters : (kind : ℕ) {l : List ℕ} {n : ℕ} → n ≡ length (nameOf kind) → l ≡ nameOf kind ++ zeros (7 - length (nameOf kind)) → take n l ≡ nameOf kind
-letters kind {l} {n} e f = ap (λ (l : List ℕ). take n l) f ∙ take-at (nameOf kind) (zeros (7 - length (nameOf kind))) n (sym e)
-
-pub letters-fit : (kind : ℕ) {l : List ℕ} {n : ℕ} → n ≡ length (nameOf kind) → l ≡ nameOf kind ++ zeros (7 - length (nameOf kind)) → n ≤ length l
-letters-fit kind e f = omega (arith, e, ap length f, length-append (nameOf kind) (zeros (7 - length (nameOf kind))))
+pub first-fit : (w : List ℕ) (m : ℕ) {l : List ℕ} {n : ℕ} → n ≡ length w → l ≡ w ++ zeros (m - length w) → n ≤ length l
+first-fit w m e f = omega (arith, e, ap length f, length-append w (zeros (m - length w)))
 
 module _ {w t : List ℕ} {len : ℕ} (e : t ≡ zeros len) where
   pub wrote-short : len < 65536 → Wrote w len (refused 1) t

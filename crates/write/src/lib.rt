@@ -1,12 +1,11 @@
 // A netlist as flat text, piece by piece into lent memory.
 use netlist::Answer;
 use rules::Gate;
-ghost use mathlib.Core.Path.{_≡_};
 ghost use mathlib.Core.List.{[], _∷_};
 ghost use Prim.Native.Nat.{_+_, _≤_, _<_};
 ghost use lib.ListN.{length};
 ghost use Rattle.rules.specs.Primitives.{primitive};
-ghost use Rattle.rules.specs.Netlist.{gates, inputsAt, Fine, WellFormed};
+ghost use Rattle.rules.specs.Netlist.{gates, inputsAt, WellFormed};
 ghost use Rattle.rules.specs.Flat.{decimal, between, wireText, entryText, portsText, varsText, wiresText, gateText, gatesText, flatText};
 ghost use Rattle.netlist.specs.Answers.{told};
 ghost use Rattle.write.specs.Put.{Put};
@@ -35,38 +34,15 @@ fn copy(text: &mut [u8], at: usize, s: &[u8]) -> usize
     at + i
 }
 
-// A digit as its byte.
-fn digit(n: u16) -> u8
-    requires { ⌜ n < 10 ⌝ }
-    ensures { λ r. ⌜ r ≡ 48 + n ⌝ }
-{
-    b'0' + n as u8
-}
-
 // A number in decimal, with no zero before it.
 fn put_number(text: &mut [u8], at: usize, n: u16) -> usize
-    requires { ⌜ (n < 10000) × (at + length (decimal n) ≤ length (now text)) ⌝ }
+    requires { ⌜ at + length (decimal n) ≤ length (now text) ⌝ }
     ensures { λ r. ⌜ Put (now (text .entry)) at (decimal n) r (now (text .exit)) ⌝ }
 {
-    if n < 10 {
-        let s = [digit(n)];
-        return copy(text, at, &s);
-    }
-    if n < 100 {
-        let s = [digit(n / 10), digit(n % 10)];
-        return copy(text, at, &s);
-    }
-    if n < 1000 {
-        let s = [digit(n / 100), digit(n / 10 % 10), digit(n % 10)];
-        return copy(text, at, &s);
-    }
-    let s = [
-        digit(n / 1000),
-        digit(n / 100 % 10),
-        digit(n / 10 % 10),
-        digit(n % 10),
-    ];
-    copy(text, at, &s)
+    let number = netlist::decimal_of(n);
+    let digits = number.digits;
+    let k = number.length;
+    copy(text, at, &digits[..k])
 }
 
 // A mark where more follow: none after the last.
@@ -82,7 +58,7 @@ fn put_between(text: &mut [u8], at: usize, b: u8, more: u16) -> usize
 
 // w5
 fn put_wire(text: &mut [u8], at: usize, wire: u16) -> usize
-    requires { ⌜ (wire < 10000) × (at + length (wireText wire) ≤ length (now text)) ⌝ }
+    requires { ⌜ at + length (wireText wire) ≤ length (now text) ⌝ }
     ensures { λ r. ⌜ Put (now (text .entry)) at (wireText wire) r (now (text .exit)) ⌝ }
 {
     let a = put(text, at, b'w');
@@ -91,7 +67,7 @@ fn put_wire(text: &mut [u8], at: usize, wire: u16) -> usize
 
 // w5:WIRE
 fn put_entry(text: &mut [u8], at: usize, wire: u16) -> usize
-    requires { ⌜ (wire < 10000) × (at + length (entryText wire) ≤ length (now text)) ⌝ }
+    requires { ⌜ at + length (entryText wire) ≤ length (now text) ⌝ }
     ensures { λ r. ⌜ Put (now (text .entry)) at (entryText wire) r (now (text .exit)) ⌝ }
 {
     let a = put_wire(text, at, wire);
@@ -100,7 +76,7 @@ fn put_entry(text: &mut [u8], at: usize, wire: u16) -> usize
 
 // So many ports from wire s on, and the end of their line.
 fn put_ports(text: &mut [u8], at: usize, s: u16, n: u16) -> usize
-    requires { ⌜ (s + n < 10000) × (at + length (portsText s n) ≤ length (now text)) ⌝ }
+    requires { ⌜ (s + n < 65536) × (at + length (portsText s n) ≤ length (now text)) ⌝ }
     ensures { λ r. ⌜ Put (now (text .entry)) at (portsText s n) r (now (text .exit)) ⌝ }
 {
     let mut p = at;
@@ -115,7 +91,7 @@ fn put_ports(text: &mut [u8], at: usize, s: u16, n: u16) -> usize
 
 // So many other wires from wire s on, a line each.
 fn put_vars(text: &mut [u8], at: usize, s: u16, n: u16) -> usize
-    requires { ⌜ (s + n < 10000) × (at + length (varsText s n) ≤ length (now text)) ⌝ }
+    requires { ⌜ (s + n < 65536) × (at + length (varsText s n) ≤ length (now text)) ⌝ }
     ensures { λ r. ⌜ Put (now (text .entry)) at (varsText s n) r (now (text .exit)) ⌝ }
 {
     let mut p = at;
@@ -142,7 +118,7 @@ fn put_name(text: &mut [u8], at: usize, kind: u16) -> usize
 
 // Slot k, which holds x, of a gate with n inputs: nothing where the kind does not use it.
 fn put_slot(text: &mut [u8], at: usize, n: usize, k: usize, x: u16) -> usize
-    requires { ⌜ ((k < n → x < 10000)) × (at + length (slotText n k x) ≤ length (now text)) ⌝ }
+    requires { ⌜ at + length (slotText n k x) ≤ length (now text) ⌝ }
     ensures { λ r. ⌜ Put (now (text .entry)) at (slotText n k x) r (now (text .exit)) ⌝ }
 {
     if k < n {
@@ -157,7 +133,6 @@ fn put_slot(text: &mut [u8], at: usize, n: usize, k: usize, x: u16) -> usize
 
 // The input wires of a gate.
 fn put_slots(text: &mut [u8], at: usize, g: Gate) -> usize
-    requires { ⌜ Fine 1536 0 g ⌝ }
     requires { ⌜ at + length (wiresText (inputsAt g)) ≤ length (now text) ⌝ }
     ensures { λ r. ⌜ Put (now (text .entry)) at (wiresText (inputsAt g)) r (now (text .exit)) ⌝ }
 {
@@ -169,7 +144,6 @@ fn put_slots(text: &mut [u8], at: usize, g: Gate) -> usize
 
 // xor [w5,w1] [w6]
 fn put_gate(text: &mut [u8], at: usize, g: Gate) -> usize
-    requires { ⌜ Fine 1536 0 g ⌝ }
     requires { ⌜ at + length (gateText g) ≤ length (now text) ⌝ }
     ensures { λ r. ⌜ Put (now (text .entry)) at (gateText g) r (now (text .exit)) ⌝ }
 {

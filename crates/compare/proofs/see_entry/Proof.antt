@@ -10,14 +10,14 @@ returns : tie.Need-returns
 unfolding entryText
 returns c =
     let start = c .before .before .before .before in
-    let w0 = begin (start .args .text .now) (start .args .at) (wireText (start .args .wire) ∷ bytes ":WIRE" ∷ []) (start .pre .0) in
+    let w0 = begin (start .args .text .now) (start .args .at) (wireText (start .args .wire) ∷ bytes ":WIRE" ∷ []) (start .pre) in
     stop w0 (c .before .before .see-wire .ensures) (c .enum-told .given .1)
 
 see-requires : tie.Need-see-requires
 unfolding entryText
 see-requires c κs =
     let start = c .before .before .before .before .before .before in
-    let w0 = begin (start .args .text .now) (start .args .at) (wireText (start .args .wire) ∷ bytes ":WIRE" ∷ []) (start .pre .0) in
+    let w0 = begin (start .args .text .now) (start .args .at) (wireText (start .args .wire) ∷ bytes ":WIRE" ∷ []) (start .pre) in
     let w1 = step w0 (c .before .before .before .before .see-wire .ensures) (c .before .before .a .given .1) in
     w1 .inside
 
@@ -25,7 +25,7 @@ returns-2 : tie.Need-returns-2
 unfolding entryText
 returns-2 c =
     let start = c .before .before .before .before .before .before .before in
-    let w0 = begin (start .args .text .now) (start .args .at) (wireText (start .args .wire) ∷ bytes ":WIRE" ∷ []) (start .pre .0) in
+    let w0 = begin (start .args .text .now) (start .args .at) (wireText (start .args .wire) ∷ bytes ":WIRE" ∷ []) (start .pre) in
     let w1 = step w0 (c .before .before .before .before .before .see-wire .ensures) (c .before .before .before .a .given .1) in
     last w1 (c .see .ensures)
 

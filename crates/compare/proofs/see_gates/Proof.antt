@@ -2,7 +2,7 @@ use Prim.Native.Nat.{_-_, _≤_}
 use Rattle.compare.proofs.see_gates.Statement.{statement}
 use Rattle.compare.specs.Match.{Walking, match-is, begin-one, piece-is, apart, step, stop, finish}
 use Rattle.rules.specs.Flat.{gateText, gatesText}
-use Rattle.write.specs.Pieces.{gates-begin, gates-open, gates-close, fine-as}
+use Rattle.write.specs.Pieces.{gates-begin, gates-open, gates-close}
 use borrow.Author.Needs.{needs}
 use mathlib.Core.List.{[], _∷_}
 use mathlib.Core.Path.{ap}
@@ -21,7 +21,7 @@ loop-holds c =
     (omega arith, piece-is (gates-begin _ _) (begin-one (start .args .text .now) (start .args .at) _ (start .pre .1)))
 
 see-gate-requires : tie.Need-see-gate-requires Inv-loop μ-loop
-see-gate-requires c κs = (fine-as (c .before .before .before .before .before .before .pre .0) (omega (arith, c .before .before .before .word .ensures, c .before .loop-test .taken)) (c .gate-at .ensures), c .before .before .loop .inv .1 .inside)
+see-gate-requires c κs = c .before .before .loop .inv .1 .inside
 
 returns : tie.Need-returns Inv-loop μ-loop
 returns c =

@@ -18,7 +18,7 @@ loop-holds : tie.Need-loop-holds Inv-loop μ-loop
 loop-holds c = (omega arith, piece-is (ports-begin _ _) (begin-one (c .before .args .text .now) (c .before .args .at) _ (c .before .pre .0)))
 
 see-entry-requires : tie.Need-see-entry-requires Inv-loop μ-loop
-see-entry-requires c κs = (c .before .loop .inv .1 .inside, omega arith)
+see-entry-requires c κs = c .before .loop .inv .1 .inside
 
 returns : tie.Need-returns Inv-loop μ-loop
 returns c =

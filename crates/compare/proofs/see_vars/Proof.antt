@@ -29,7 +29,7 @@ see-entry-requires : tie.Need-see-entry-requires Inv-loop μ-loop
 see-entry-requires c κs =
     let w0 = apart _ (vars-open _ _ _ (c .before .before .before .before .before .loop-test .taken)) (c .before .before .before .before .before .before .loop .inv .1) in
     let w1 = step w0 (c .before .before .before .see .ensures) (c .before .a .given .1) in
-    (w1 .inside, omega arith)
+    w1 .inside
 
 returns-2 : tie.Need-returns-2 Inv-loop μ-loop
 returns-2 c =

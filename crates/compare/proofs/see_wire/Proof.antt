@@ -10,22 +10,22 @@ returns : tie.Need-returns
 unfolding wireText
 returns c =
     let start = c .before .before .before .before .before in
-    let w0 = begin (start .args .text .now) (start .args .at) (bytes "w" ∷ decimal (start .args .wire) ∷ []) (start .pre .0) in
+    let w0 = begin (start .args .text .now) (start .args .at) (bytes "w" ∷ decimal (start .args .wire) ∷ []) (start .pre) in
     stop w0 (c .before .before .see .ensures) (c .enum-told .given .1)
 
 see-number-requires : tie.Need-see-number-requires
 unfolding wireText
 see-number-requires c κs =
     let start = c .before .before .before .before .before .before in
-    let w0 = begin (start .args .text .now) (start .args .at) (bytes "w" ∷ decimal (start .args .wire) ∷ []) (start .pre .0) in
+    let w0 = begin (start .args .text .now) (start .args .at) (bytes "w" ∷ decimal (start .args .wire) ∷ []) (start .pre) in
     let w1 = step w0 (c .before .before .before .see .ensures) (c .before .a .given .1) in
-    (w1 .inside, start .pre .1)
+    w1 .inside
 
 returns-2 : tie.Need-returns-2
 unfolding wireText
 returns-2 c =
     let start = c .before .before .before .before .before .before .before in
-    let w0 = begin (start .args .text .now) (start .args .at) (bytes "w" ∷ decimal (start .args .wire) ∷ []) (start .pre .0) in
+    let w0 = begin (start .args .text .now) (start .args .at) (bytes "w" ∷ decimal (start .args .wire) ∷ []) (start .pre) in
     let w1 = step w0 (c .before .before .before .before .see .ensures) (c .before .before .a .given .1) in
     last w1 (c .see-number .ensures)
 

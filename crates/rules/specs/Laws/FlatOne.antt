@@ -10,7 +10,7 @@ use lib.Seq.{length-take-le, getD-take, ext-getD}
 use borrow.Author.Tests.{lt-ltb, le-ltb, leb-true}
 use lib.Dec.{leb}
 use Rattle.rules.specs.declared.Gate.{Gate}
-use Rattle.rules.specs.Text.{bytes, pick, same, indexOf, joined}
+use Rattle.rules.specs.Text.{bytes, same, indexOf, joined, pick}
 use Rattle.rules.specs.Primitives.{primitive, primitiveNames, inputsOf}
 use Rattle.rules.specs.Netlist.{inputs, outputs, wires, gates, gateAt, inputsAt, Slot, Fine, WellFormed, records}
 use Rattle.rules.specs.Flat.{decimal, between, wireText, entryText, portsText, varsText, wiresText, gateText, gatesText, flatText}

@@ -1,7 +1,7 @@
 use Prim.Native.Nat.{_-_, _≤_}
 use Rattle.rules.specs.Flat.{gateText, gatesText}
 use Rattle.write.proofs.put_gates.Statement.{statement}
-use Rattle.write.specs.Pieces.{gates-begin, gates-open, gates-close, fine-as}
+use Rattle.write.specs.Pieces.{gates-begin, gates-open, gates-close}
 use Rattle.write.specs.Put.{Writing, put-is, room-as, begin-one, piece-is, apart, step, room-of, finish}
 use borrow.Author.Needs.{needs}
 use lib.ListN.{length}
@@ -24,10 +24,9 @@ loop-holds c =
 
 put-gate-requires : tie.Need-put-gate-requires Inv-loop μ-loop
 put-gate-requires c κs =
-    let start = c .before .before .before .before .before .before .before in
     let gate = ap gateText (c .before .gate-at .ensures) in
-    let w0 = apart _ (gates-open (start .args .net .now) _ _ (c .before .before .loop-test .taken)) (c .before .before .before .loop .inv .2) in
-    (fine-as (start .pre .0) (omega (arith, c .before .before .before .before .word .ensures, c .before .before .loop-test .taken)) (c .before .gate-at .ensures), room-as _ _ gate (room-of w0))
+    let w0 = apart _ (gates-open (c .before .before .before .before .before .before .before .args .net .now) _ _ (c .before .before .loop-test .taken)) (c .before .before .before .loop .inv .2) in
+    room-as _ _ gate (room-of w0)
 
 put-between-requires : tie.Need-put-between-requires Inv-loop μ-loop
 put-between-requires c κs =

@@ -1,29 +1,35 @@
+use Rattle.rules.specs.Primitives.{primitive}
 use Rattle.write.proofs.put_name.Statement.{statement}
 use Rattle.write.specs.Put.{put-is, room-as}
-use Rattle.write.specs.Writes.{letters, letters-fit}
+use Rattle.write.specs.Writes.{first-ones, first-fit}
 use borrow.Author.Needs.{needs}
 use lib.Seq.{length-take-le}
 use mathlib.Core.Path.{sym}
 use Rattle.write.proofs.put_name.Tie as tie
 
 array-share-prefix-letters : tie.Need-array-share-prefix-letters
-array-share-prefix-letters c = letters-fit (c .before .before .before .before .args .kind) (c .before .before .name .ensures .0) (c .before .before .name .ensures .1)
+array-share-prefix-letters c =
+    let name = primitive (c .before .before .before .before .args .kind) .name in
+    first-fit name 7 (c .before .before .name .ensures .0) (c .before .before .name .ensures .1)
 
 slice-aggregate-copy : tie.Need-slice-aggregate-copy
 slice-aggregate-copy c =
     let at-name = c .before .before .before in
-    sym (length-take-le _ _ (letters-fit (c .before .before .before .before .before .args .kind) (at-name .name .ensures .0) (at-name .name .ensures .1)))
+    let name = primitive (c .before .before .before .before .before .args .kind) .name in
+    sym (length-take-le _ _ (first-fit name 7 (at-name .name .ensures .0) (at-name .name .ensures .1)))
 
 copy-requires : tie.Need-copy-requires
 copy-requires c κs =
     let at-name = c .before .before .before in
     let start = c .before .before .before .before .before in
-    room-as _ _ (letters (start .args .kind) (at-name .name .ensures .0) (at-name .name .ensures .1)) (start .pre)
+    let name = primitive (start .args .kind) .name in
+    room-as _ _ (first-ones name 7 (at-name .name .ensures .0) (at-name .name .ensures .1)) (start .pre)
 
 returns : tie.Need-returns
 returns c =
     let at-name = c .before .before .before .before .before .before in
-    put-is (letters (c .before .before .before .before .before .before .before .before .args .kind) (at-name .name .ensures .0) (at-name .name .ensures .1)) (c .before .before .copy .ensures)
+    let name = primitive (c .before .before .before .before .before .before .before .before .args .kind) .name in
+    put-is (first-ones name 7 (at-name .name .ensures .0) (at-name .name .ensures .1)) (c .before .before .copy .ensures)
 
 pub put-name-spec : {M : Type 1} → statement M
 put-name-spec =

@@ -22,7 +22,7 @@ loop-holds c = (refl, omega arith, piece-is (ports-begin _ _) (begin-one (c .bef
 put-entry-requires : tie.Need-put-entry-requires Inv-loop μ-loop
 put-entry-requires c κs =
     let w0 = apart _ (ports-open _ _ _ (c .before .loop-test .taken)) (c .before .before .loop .inv .2) in
-    (omega arith, room-of w0)
+    room-of w0
 
 put-between-requires : tie.Need-put-between-requires Inv-loop μ-loop
 put-between-requires c κs =

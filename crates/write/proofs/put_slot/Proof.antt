@@ -10,13 +10,13 @@ use Rattle.write.proofs.put_slot.Tie as tie
 put-wire-requires : tie.Need-put-wire-requires
 put-wire-requires c κs =
     let start = c .before .before .before in
-    let w0 = apart _ (slot-used (start .args .n) (start .args .k) (start .args .x) (c .before .if1 .taken)) (begin-one (start .args .text .now) (start .args .at) _ (start .pre .1)) in
-    (start .pre .0 (c .before .if1 .taken), room-of w0)
+    let w0 = apart _ (slot-used (start .args .n) (start .args .k) (start .args .x) (c .before .if1 .taken)) (begin-one (start .args .text .now) (start .args .at) _ (start .pre)) in
+    room-of w0
 
 put-requires : tie.Need-put-requires
 put-requires c κs =
     let start = c .before .before .before .before .before .before .before .before in
-    let w0 = apart _ (slot-used (start .args .n) (start .args .k) (start .args .x) (c .before .before .before .before .before .before .if1 .taken)) (begin-one (start .args .text .now) (start .args .at) _ (start .pre .1)) in
+    let w0 = apart _ (slot-used (start .args .n) (start .args .k) (start .args .x) (c .before .before .before .before .before .before .if1 .taken)) (begin-one (start .args .text .now) (start .args .at) _ (start .pre)) in
     let w1 = step w0 (c .before .before .before .before .put-wire .ensures) in
     let comma = piece-is (between-some _ _ (omega (arith, c .before .if2 .taken))) w1 in
     omega (arith, room-of comma)
@@ -24,7 +24,7 @@ put-requires c κs =
 returns : tie.Need-returns
 returns c =
     let start = c .before .before .before .before .before .before .before .before .before .before .before in
-    let w0 = apart _ (slot-used (start .args .n) (start .args .k) (start .args .x) (c .before .before .before .before .before .before .before .before .before .if1 .taken)) (begin-one (start .args .text .now) (start .args .at) _ (start .pre .1)) in
+    let w0 = apart _ (slot-used (start .args .n) (start .args .k) (start .args .x) (c .before .before .before .before .before .before .before .before .before .if1 .taken)) (begin-one (start .args .text .now) (start .args .at) _ (start .pre)) in
     let w1 = step w0 (c .before .before .before .before .before .before .before .put-wire .ensures) in
     let comma = piece-is (between-some _ _ (omega (arith, c .before .before .before .before .if2 .taken))) w1 in
     finish (step comma (c .before .before .put .ensures))
@@ -32,7 +32,7 @@ returns c =
 returns-2 : tie.Need-returns-2
 returns-2 c =
     let start = c .before .before .before .before .before .before .before in
-    let w0 = apart _ (slot-used (start .args .n) (start .args .k) (start .args .x) (c .before .before .before .before .before .if1 .taken)) (begin-one (start .args .text .now) (start .args .at) _ (start .pre .1)) in
+    let w0 = apart _ (slot-used (start .args .n) (start .args .k) (start .args .x) (c .before .before .before .before .before .if1 .taken)) (begin-one (start .args .text .now) (start .args .at) _ (start .pre)) in
     let w1 = step w0 (c .before .before .before .put-wire .ensures) in
     finish (step (piece-is (between-none _ _ (omega (arith, c .if2 .left))) w1) put-none)
 

@@ -28,7 +28,7 @@ put-entry-requires : tie.Need-put-entry-requires Inv-loop μ-loop
 put-entry-requires c κs =
     let w0 = apart _ (vars-open _ _ _ (c .before .before .before .before .before .before .loop-test .taken)) (c .before .before .before .before .before .before .before .loop .inv .2) in
     let w1 = step w0 (c .before .before .before .copy .ensures) in
-    (omega arith, room-of w1)
+    room-of w1
 
 copy-requires-2 : tie.Need-copy-requires-2 Inv-loop μ-loop
 copy-requires-2 c κs =

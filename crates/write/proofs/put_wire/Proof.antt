@@ -10,22 +10,22 @@ use Rattle.write.proofs.put_wire.Tie as tie
 put-requires : tie.Need-put-requires
 unfolding wireText
 put-requires c κs =
-    let w0 = begin (c .before .before .args .text .now) (c .before .before .args .at) (bytes "w" ∷ decimal (c .before .before .args .wire) ∷ []) (c .before .before .pre .1) in
+    let w0 = begin (c .before .before .args .text .now) (c .before .before .args .at) (bytes "w" ∷ decimal (c .before .before .args .wire) ∷ []) (c .before .before .pre) in
     omega (arith, room-of w0)
 
 put-number-requires : tie.Need-put-number-requires
 unfolding wireText
 put-number-requires c κs =
     let start = c .before .before .before .before .before .before in
-    let w0 = begin (start .args .text .now) (start .args .at) (bytes "w" ∷ decimal (start .args .wire) ∷ []) (start .pre .1) in
+    let w0 = begin (start .args .text .now) (start .args .at) (bytes "w" ∷ decimal (start .args .wire) ∷ []) (start .pre) in
     let w1 = step w0 (c .before .before .before .put .ensures) in
-    (start .pre .0, room-of w1)
+    room-of w1
 
 returns : tie.Need-returns
 unfolding wireText
 returns c =
     let start = c .before .before .before .before .before .before .before .before .before in
-    let w0 = begin (start .args .text .now) (start .args .at) (bytes "w" ∷ decimal (start .args .wire) ∷ []) (start .pre .1) in
+    let w0 = begin (start .args .text .now) (start .args .at) (bytes "w" ∷ decimal (start .args .wire) ∷ []) (start .pre) in
     let w1 = step w0 (c .before .before .before .before .before .before .put .ensures) in
     finish (step w1 (c .before .before .put-number .ensures))
 
