@@ -259,15 +259,15 @@ module _ (nin : ℕ) (deeper : ℕ → Out Act) (sigs : List (List Role)) (below
       unfolds-within E rest (h .1) ρ σ s u
   unfolds-within E (loop p i a b body rest) h ρ σ s u =
       within-then (within-at p (tick-within s)) λ s. within-then (within-at p (eval-within ρ a)) λ x. within-then (within-at p (eval-within ρ b)) λ y.
-      within-then (turns-within p _ (λ v t. unfolds-within E body (h .0) _ σ t u) x _ s) λ s. unfolds-within E rest (h .1) ρ σ s u
+      within-then (turns-within p _ (λ v t. unfolds-within E body (h .0) _ σ t u) _ _ s) λ s. unfolds-within E rest (h .1) ρ σ s u
 
   enter-within : (B : Block ℕ Callee) → StmtsOk sigs (namesOf B) (B .body) → Acts (portsOf B) (enter nin deeper B)
   unfolding enter
   enter-within B scoped p vs rs s z =
       within-next (within-at p (tie-within _ (B .inputs ++ B .outputs) rs z)) λ τ et.
-      within-next (within-at p (declare-within _ (B .locals) _ s)) λ r er.
+      within-next (within-at p (declare-within _ (B .locals) _ _)) λ r er.
       unfolds-within (namesOf B) (B .body) scoped _ _ _
-      (subst (Suits (r .0)) (named-all B) (declare-suits _ (B .locals) _ s (map (λ n. a-generic) (B .generics) ++ portsOf B) (suits-append _ τ _ (portsOf B) (suits-blanks (B .generics)) (tie-suits _ (B .inputs ++ B .outputs) rs (at-ok p _ et))) (at-ok p _ er)))
+      (subst (Suits (r .0)) (named-all B) (declare-suits _ (B .locals) _ _ (map (λ n. a-generic) (B .generics) ++ portsOf B) (suits-append _ τ _ (portsOf B) (suits-blanks (B .generics)) (tie-suits _ (B .inputs ++ B .outputs) rs (at-ok p _ et))) (at-ok p _ er)))
 
 nth-both : (sigs : List (List Role)) (Bs : List (Block ℕ Callee)) (b : ℕ) {ws : List Role} → BlocksOk sigs Bs → nth 7 (map portsOf Bs) b ≡ ok ws
     → (B : Block ℕ Callee) × (nth 7 Bs b ≡ ok B) × (portsOf B ≡ ws) × StmtsOk sigs (namesOf B) (B .body)
