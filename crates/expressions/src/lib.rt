@@ -10,7 +10,6 @@ ghost use Rattle.tape.specs.Encoding.{expW};
 ghost use Rattle.tape.specs.Written.{Gives, none};
 ghost use Rattle.marks.specs.Room.{Room, Spends};
 ghost use Rattle.expressions.specs.Words.{Closes, boundsW};
-
 use marks::Key;
 use rules::Word;
 use tape::Kind;

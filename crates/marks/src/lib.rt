@@ -8,7 +8,6 @@ ghost use Rattle.rules.specs.Grammar.{isSum, isProduct};
 ghost use Rattle.tape.specs.Written.{Tells};
 ghost use Rattle.marks.specs.Marks.{markAt, Spots, Joins, dividing};
 ghost use Rattle.marks.specs.Room.{Past, Named, Joined, Parted};
-
 use rules::Word;
 use tape::Read;
 

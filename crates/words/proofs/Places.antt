@@ -94,13 +94,13 @@ module _ (len at p q : ℕ) (w : List ℕ) (a : at ≤ p) (e : q ≡ p + length 
   spelled-onward =
       pick-of (Onward len at) _ _ _
       (λ t. let i = ltb→lt _ _ t in
-        let r = found-length w (map bytes reserved) 1 i ∙ sym (reserved-width (indexOf w (map bytes reserved)) i) in
-        (omega arith, omega arith, c, omega arith, λ z. absurd (omega arith)))
+      let r = found-length w (map bytes reserved) 1 i ∙ sym (reserved-width (indexOf w (map bytes reserved)) i) in
+      (omega arith, omega arith, c, omega arith, λ z. absurd (omega arith)))
       (λ t. pick-of (Onward len at) _ _ _
       (λ t. let (d, l) = both-yes (all isDigit w) (leb (length w) 6) t in
-        let m = leb→le (length w) 6 l in
-        let v = value-below w 0 1 d (omega arith) in
-        (a, b, c, omega arith, omega (arith, million (length w) m)))
+      let m = leb→le (length w) 6 l in
+      let v = value-below w 0 1 d (omega arith) in
+      (a, b, c, omega arith, omega (arith, million (length w) m)))
       (λ t. pick-of (Onward len at) _ _ _
       (λ t. let m = leb→le (length w) 16 (both-yes (isLetter (getD w 0 0)) (leb (length w) 16) t .1) in (a, b, c, omega arith))
       (λ t. (a, omega arith))))
@@ -120,20 +120,20 @@ unfolding begun
 begun-onward s at p a h =
     pick-of (Onward (length s) at) _ _ _
     (λ t. let n = word-run s p h t in
-      let m = run-most inWord (drop p s) in
-      let d = length-drop p s in
-      let l : length (take (run inWord (drop p s)) (drop p s)) ≡ run inWord (drop p s) = rw length-take (omega arith) in
-      spelled-onward (length s) at p (p + run inWord (drop p s)) (take (run inWord (drop p s)) (drop p s)) a (omega arith) (omega arith) (omega arith))
+    let m = run-most inWord (drop p s) in
+    let d = length-drop p s in
+    let l : length (take (run inWord (drop p s)) (drop p s)) ≡ run inWord (drop p s) = rw length-take (omega arith) in
+    spelled-onward (length s) at p (p + run inWord (drop p s)) (take (run inWord (drop p s)) (drop p s)) a (omega arith) (omega arith) (omega arith))
     (λ t. pick-of (Onward (length s) at) _ _ _
     (λ t. let (l, m, n) = mark-byte (getD s p 0) t in
-      let x = mark-width (getD s p 0) l n in
-      (omega arith, omega arith, omega arith, m, λ z. absurd (omega arith)))
+    let x = mark-width (getD s p 0) l n in
+    (omega arith, omega arith, omega arith, m, λ z. absurd (omega arith)))
     (λ t. pick-of (Onward (length s) at) _ _ _
     (λ t. let (x, y) = both-yes (eqb (getD s p 0) 46) (eqb (getD s (p + 1) 0) 46) t in
-      let e = eqb→eq (getD s p 0) 46 x in
-      let f = dots-fit s p y in
-      let z = dots-width (getD s p 0) e in
-      (omega arith, omega arith, f, omega arith, λ z. absurd (omega arith)))
+    let e = eqb→eq (getD s p 0) 46 x in
+    let f = dots-fit s p y in
+    let z = dots-width (getD s p 0) e in
+    (omega arith, omega arith, f, omega arith, λ z. absurd (omega arith)))
     (λ t. (a, h))))
 
 pub onward : (s : List ℕ) (at : ℕ) → Onward (length s) at (wordAt s at)
