@@ -1,97 +1,72 @@
+-- `expressions::bounds` meets its contract. Assumes nothing.
+use Rattle.expressions.specs.Words.{boundsW}
+use Rattle.marks.specs.Laws.One.{on, stop, passed}
+use Rattle.rules.specs.Grammar.{bounds as boundsAt}
+use Rattle.rules.specs.Readers.{give}
+use Rattle.tape.specs.Written.{later}
 use borrow.Author.Needs.{needs}
+use mathlib.Core.Path.{refl, _∙_}
+use native.Mathlib.Omega.{arith}
 use Rattle.expressions.proofs.bounds.Statement.{statement}
 use Rattle.expressions.proofs.bounds.Tie as tie
-use Rattle.expressions.proofs.bounds.Reads as reads
-use Rattle.expressions.proofs.bounds.Lts as lts
-use Rattle.expressions.proofs.value.Reads as value-reads
-use Rattle.marks.proofs.mark.Reads as mark-reads
 
--- src/lib.rt:152:9
-value-requires : tie.Need-value-requires
-value-requires c κs = search needs
-
--- src/lib.rt:153:20
-enum-known-a : tie.Need-enum-known-a
-enum-known-a c = search needs
-
--- src/lib.rt:154:9
-enum-told : tie.Need-enum-told
-enum-told c = search needs
-
--- src/lib.rt:154:9
-same-length : tie.Need-same-length
-same-length c = search needs
-
--- src/lib.rt:154:9
 returns : tie.Need-returns
-returns c = ?
+unfolding boundsAt
+returns c = let p = c .enum-told .given .1 in rw p (stop _ _ _ (rw p at (c .before .before .before .before .value .ensures .0)), tt)
 
--- src/lib.rt:156:9
 mark-requires : tie.Need-mark-requires
-mark-requires c κs = ?
+mark-requires c κs = let a = rw (c .before .a .given .1) at (c .before .before .before .before .before .value .ensures .1) in omega (arith, c .before .before .before .before .before .before .before .before .before .pre)
 
--- src/lib.rt:157:20
-enum-known-d : tie.Need-enum-known-d
-enum-known-d c = search needs
-
--- src/lib.rt:158:9
-enum-told-2 : tie.Need-enum-told-2
-enum-told-2 c = search needs
-
--- src/lib.rt:158:9
-same-length-2 : tie.Need-same-length-2
-same-length-2 c = search needs
-
--- src/lib.rt:158:9
 returns-2 : tie.Need-returns-2
-returns-2 c = ?
+unfolding boundsAt
+returns-2 c =
+    let p = c .enum-told2 .given .1 in
+    let a = rw (c .before .before .before .before .a .given .1) at (c .before .before .before .before .before .before .before .before .value .ensures .0) in
+    rw p (on _ _ _ (a .reads) ∙ stop _ _ _ (passed ".." _ _ (rw p at (c .before .before .mark .ensures .0))), tt)
 
--- src/lib.rt:160:9
 value-requires-2 : tie.Need-value-requires-2
-value-requires-2 c κs = ?
+value-requires-2 c κs =
+    let a = rw (c .before .before .before .before .before .before .a .given .1) at (c .before .before .before .before .before .before .before .before .before .before .value .ensures .1) in
+    let d = rw (c .before .before .d .given .1) at (c .before .before .before .before .mark .ensures .1) in
+    omega (arith, c .before .before .before .before .before .before .before .before .before .before .before .before .before .before .pre, c .before .before .before .before .before .before .before .before .before .before .value .kept .1 .0)
 
--- src/lib.rt:161:20
-enum-known-b : tie.Need-enum-known-b
-enum-known-b c = search needs
-
--- src/lib.rt:162:9
-enum-told-3 : tie.Need-enum-told-3
-enum-told-3 c = search needs
-
--- src/lib.rt:162:9
-same-length-3 : tie.Need-same-length-3
-same-length-3 c = search needs
-
--- src/lib.rt:162:9
 returns-3 : tie.Need-returns-3
-returns-3 c = ?
+unfolding boundsAt
+returns-3 c =
+    let p = c .enum-told3 .given .1 in
+    let a = rw (c .before .before .before .before .before .before .before .before .before .before .before .a .given .1) at (c .before .before .before .before .before .before .before .before .before .before .before .before .before .before .before .value .ensures .0) in
+    let d = rw (c .before .before .before .before .before .before .before .d .given .1) at (c .before .before .before .before .before .before .before .before .before .mark .ensures .0) in
+    rw p (on _ _ _ (a .reads) ∙ on _ _ _ (passed ".." _ _ d) ∙ stop _ _ _ (rw p at (c .before .before .before .before .value2 .ensures .0)), tt)
 
--- src/lib.rt:147:1
-same-length-4 : tie.Need-same-length-4
-same-length-4 c = search needs
-
--- src/lib.rt:147:1
 returns-4 : tie.Need-returns-4
-returns-4 c = ?
+unfolding boundsAt boundsW give
+returns-4 c =
+    let a = rw (c .before .before .before .before .before .before .before .before .before .before .before .before .a .given .1) at (c .before .before .before .before .before .before .before .before .before .before .before .before .before .before .before .before .value .ensures .0) in
+    let d = rw (c .before .before .before .before .before .before .before .before .d .given .1) at (c .before .before .before .before .before .before .before .before .before .before .mark .ensures .0) in
+    let b = rw (c .before .b .given .1) at (c .before .before .before .before .before .value2 .ensures .0) in
+    let x = rw (c .before .before .before .before .before .before .before .before .before .before .before .before .a .given .1) at (c .before .before .before .before .before .before .before .before .before .before .before .before .before .before .before .before .value .ensures .1) in
+    let y = rw (c .before .before .before .before .before .before .before .before .d .given .1) at (c .before .before .before .before .before .before .before .before .before .before .mark .ensures .1) in
+    let z = rw (c .before .b .given .1) at (c .before .before .before .before .before .value2 .ensures .1) in
+    (record { value = (a .value, b .value); reads = on _ _ _ (a .reads) ∙ on _ _ _ (passed ".." _ _ d) ∙ on _ _ _ (b .reads); wrote = later (a .wrote) (b .wrote); counts = refl }, omega arith)
 
 pub bounds-spec : {M : Type 1} → statement M
 bounds-spec =
     tie.close
     (tie.spec
-    value-requires
-    enum-known-a
-    enum-told
-    same-length
+    (λ c κs. search needs)
+    (λ c. search needs)
+    (λ c. search needs)
+    (λ c. search needs)
     returns
     mark-requires
-    enum-known-d
-    enum-told-2
-    same-length-2
+    (λ c. search needs)
+    (λ c. search needs)
+    (λ c. search needs)
     returns-2
     value-requires-2
-    enum-known-b
-    enum-told-3
-    same-length-3
+    (λ c. search needs)
+    (λ c. search needs)
+    (λ c. search needs)
     returns-3
-    same-length-4
+    (λ c. search needs)
     returns-4)

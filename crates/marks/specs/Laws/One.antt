@@ -11,14 +11,24 @@ use Rattle.rules.specs.Laws.Placed.{pick-of}
 use Rattle.rules.specs.declared.Word.{Word}
 use Rattle.rules.specs.declared.Word.the-variants.{Bad, Name as Named, Number, Mark}
 use Rattle.rules.specs.Text.{pick}
-use Rattle.rules.specs.Outcome.{Out, ok, refuse}
+use Rattle.rules.specs.Outcome.{Out, ok, refuse, _>>=_ as _and-then_}
 use Rattle.rules.specs.Words.{wordAt, key}
 use Rattle.rules.specs.Syntax.{Name}
-use Rattle.rules.specs.Readers.{Reader, give, refused, marked, spelling, named, isNext, after, mark, aName, ifNext}
+use Rattle.rules.specs.Readers.{Reader, _>>=_, give, refused, marked, spelling, named, isNext, after, mark, aName, ifNext}
 use Rattle.tape.specs.Layout.{spelt, nameW}
 use Rattle.words.specs.Onward.{widths, width, Onward}
 use Rattle.marks.specs.Marks.{markAt, isCode}
 use Rattle.marks.specs.Room.{wide}
+
+-- readers one after another
+module _ {A B : Type 0} (m : Reader A) (f : A → Reader B) (at : ℕ) where
+  pub on : {a : A} {n : ℕ} → m at ≡ ok (a, n) → (m >>= f) at ≡ f a n
+  unfolding _>>=_ _and-then_
+  on e = rw e
+
+  pub stop : {k p : ℕ} → m at ≡ refuse k p → (m >>= f) at ≡ refuse k p
+  unfolding _>>=_ _and-then_
+  stop e = rw e
 
 -- a mark by its name
 pub passed : (k : String) (s : List ℕ) (at : ℕ) {o : Out (ℕ × ℕ)} → markAt s (key k) at ≡ o → mark s k at ≡ o
