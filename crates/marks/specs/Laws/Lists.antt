@@ -1,6 +1,6 @@
 -- Laws of lists, read by a loop. Assumes nothing.
 use mathlib.Core.Path.{_≡_, refl, sym, ap, _∙_}
-use Prim.Native.Nat.{ℕ, zero, suc, _+_, _≤_, _<_}
+use Prim.Native.Nat.{ℕ, zero, suc, _+_, _*_, _≤_, _<_}
 use Prim.Native.String.{String}
 use mathlib.Core.Bool.{Bool, true, false}
 use mathlib.Core.List.{List, [], _∷_, _++_}
@@ -21,6 +21,7 @@ use Rattle.tape.specs.declared.Read.the-variants.{Done, No}
 use Rattle.marks.specs.declared.Divided.{Divided}
 use Rattle.marks.specs.declared.Divided.the-variants.{Another, Last, Wrong}
 use Rattle.marks.specs.Marks.{dividing}
+use Rattle.marks.specs.Room.{Spends}
 
 -- how a list goes on, by what stands next
 module _ {A : Type 0} (sep close : ℕ) (f g : ℕ → Reader A) where
@@ -140,3 +141,14 @@ list-empty f = refl
 pub list-split : {A : Type 0} (f : A → List ℕ) (a : A) (b : List A) → f a ++ listW f b ≡ listW f (a ∷ b)
 unfolding listW
 list-split f a b = refl
+
+-- ---- answers under another name
+
+-- the same reader, written otherwise
+pub via : {A : Type 0} (size : A → ℕ) (words : A → List ℕ) {o x : Out (A × ℕ)} (t : List ℕ) (to : ℕ) (u : List ℕ) (r : Read) → x ≡ o → Gives size words o t to u r → Gives size words x t to u r
+via size words t to u r e g = rw e g
+
+-- what is spent after a part that was spent before: `spare` bytes are left of the rest, and `less` of both
+pub spent : (spare less len at n to m : ℕ) (r : Read) → at ≤ n → to ≤ m → 2 * m + at + less ≤ 2 * to + n + spare → Spends 0 spare len n m r → Spends 0 less len at to r
+spent spare less len at n to m (Done x y c) a b d e = omega arith
+spent spare less len at n to m (No k p) a b d e = tt
