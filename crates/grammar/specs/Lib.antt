@@ -1,0 +1,3 @@
+pub mod Titles
+pub mod Rows
+pub mod Parts
