@@ -132,6 +132,10 @@ module _ {s : List ℕ} {A B : Type 0} {one : A → ℕ} {f : A → List ℕ} {s
       unfolding _>>=_
       on {w} {x} {y} a = record { goes = λ r v z. L .goes r v (rw turns (and-rest (item k p n) k v r a z)) }
 
+      -- where the items are counted
+      pub onto : {w : List ℕ} {x y c : ℕ} → Got one f (item k p n) u end w x y c → (j : ℕ) → j ≡ suc k → Listing t k₀ at to w j x y
+      onto a j e = rw e (on a)
+
 -- ---- lists that are lists
 
 pub list-empty : {A : Type 0} (f : A → List ℕ) → listW f [] ≡ []
