@@ -11,7 +11,6 @@ ghost use Rattle.tape.specs.Encoding.{listW, sortW, declW, genericW};
 ghost use Rattle.tape.specs.Written.{Gives, Tells, none};
 ghost use Rattle.marks.specs.Room.{Room, Spends, Named};
 ghost use Rattle.declarations.specs.Kept.{Below, Vectors, from};
-
 use marks::Divided;
 use marks::Key;
 use tape::Kind;
@@ -288,4 +287,3 @@ pub fn locals(text: &[u8], tape: &mut [u32], at: usize, to: usize, count: usize)
         }
     }
 }
-

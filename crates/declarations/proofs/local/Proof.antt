@@ -46,9 +46,10 @@ returns-5 c =
     let o = rw (c .before .before .before .before .before .before .before .before .before .before .before .before .before .before .before .before .f .given .1) at (c .before .before .before .before .before .before .before .before .before .before .before .before .before .before .before .before .before .before .declared .ensures .1 .0) in
     let x = rw (c .before .before .before .before .before .before .before .before .before .before .before .before .c .given .1) at (c .before .before .before .before .before .before .before .before .before .before .before .before .before .before .mark .ensures .1) in
     let y = rw (c .before .before .before .before .before .s .given .1) at (c .before .before .before .before .before .before .before .before .before .sort .ensures .1) in
-    let z = rw (c .before .e .given .1) at (c .before .before .before .mark2 .ensures .1) in
-    (local-got _ _ _ _ _ _ (rw (c .before .before .before .before .before .before .before .before .before .before .before .before .before .before .before .before .f .given .1) at (c .before .before .before .before .before .before .before .before .before .before .before .before .before .before .before .before .before .before .declared .ensures .0)) (omega arith) (passed ":" _ _ (rw (c .before .before .before .before .before .before .before .before .before .before .before .before .c .given .1) at (c .before .before .before .before .before .before .before .before .before .before .before .before .before .before .mark .ensures .0))) (rw (c .before .before .before .before .before .s .given .1) at (c .before .before .before .before .before .before .before .before .before .sort .ensures .0)) (passed ";" _ _ (rw (c .before .e .given .1) at (c .before .before .before .mark2 .ensures .0))),
-      (omega arith, rw (c .before .before .before .before .before .before .before .before .before .before .before .before .before .before .before .before .f .given .1) at (c .before .before .before .before .before .before .before .before .before .before .before .before .before .before .before .before .before .before .declared .ensures .1 .1)))
+    let z = rw (c .before .e .given .1) at (c .before .before .before .mark2 .ensures .1) in (
+      local-got _ _ _ _ _ _ (rw (c .before .before .before .before .before .before .before .before .before .before .before .before .before .before .before .before .f .given .1) at (c .before .before .before .before .before .before .before .before .before .before .before .before .before .before .before .before .before .before .declared .ensures .0)) (omega arith) (passed ":" _ _ (rw (c .before .before .before .before .before .before .before .before .before .before .before .before .c .given .1) at (c .before .before .before .before .before .before .before .before .before .before .before .before .before .before .mark .ensures .0))) (rw (c .before .before .before .before .before .s .given .1) at (c .before .before .before .before .before .before .before .before .before .sort .ensures .0)) (passed ";" _ _ (rw (c .before .e .given .1) at (c .before .before .before .mark2 .ensures .0))),
+      (omega arith, rw (c .before .before .before .before .before .before .before .before .before .before .before .before .before .before .before .before .f .given .1) at (c .before .before .before .before .before .before .before .before .before .before .before .before .before .before .before .before .before .before .declared .ensures .1 .1)),
+    )
 
 pub local-spec : {M : Type 1} → statement M
 local-spec =

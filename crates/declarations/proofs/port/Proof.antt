@@ -36,9 +36,10 @@ returns-4 : tie.Need-returns-4
 returns-4 c =
     let o = rw (c .before .before .before .before .before .before .before .before .before .before .before .before .f .given .1) at (c .before .before .before .before .before .before .before .before .before .before .before .before .before .before .declared .ensures .1 .0) in
     let x = rw (c .before .before .before .before .before .before .before .before .c .given .1) at (c .before .before .before .before .before .before .before .before .before .before .mark .ensures .1) in
-    let y = rw (c .before .s .given .1) at (c .before .before .before .before .before .typed .ensures .1) in
-    (port-got _ _ _ _ _ _ (rw (c .before .before .before .before .before .before .before .before .before .before .before .before .f .given .1) at (c .before .before .before .before .before .before .before .before .before .before .before .before .before .before .declared .ensures .0)) (omega arith) (passed ":" _ _ (rw (c .before .before .before .before .before .before .before .before .c .given .1) at (c .before .before .before .before .before .before .before .before .before .before .mark .ensures .0))) (rw (c .before .s .given .1) at (c .before .before .before .before .before .typed .ensures .0)),
-      (omega arith, rw (c .before .before .before .before .before .before .before .before .before .before .before .before .f .given .1) at (c .before .before .before .before .before .before .before .before .before .before .before .before .before .before .declared .ensures .1 .1)))
+    let y = rw (c .before .s .given .1) at (c .before .before .before .before .before .typed .ensures .1) in (
+      port-got _ _ _ _ _ _ (rw (c .before .before .before .before .before .before .before .before .before .before .before .before .f .given .1) at (c .before .before .before .before .before .before .before .before .before .before .before .before .before .before .declared .ensures .0)) (omega arith) (passed ":" _ _ (rw (c .before .before .before .before .before .before .before .before .c .given .1) at (c .before .before .before .before .before .before .before .before .before .before .mark .ensures .0))) (rw (c .before .s .given .1) at (c .before .before .before .before .before .typed .ensures .0)),
+      (omega arith, rw (c .before .before .before .before .before .before .before .before .before .before .before .before .f .given .1) at (c .before .before .before .before .before .before .before .before .before .before .before .before .before .before .declared .ensures .1 .1)),
+    )
 
 pub port-spec : {M : Type 1} → statement M
 port-spec =

@@ -1,98 +1,85 @@
+-- `declarations::ports` meets its contract. Assumes nothing.
+use Prim.Native.Nat.{_+_, _-_}
+use Rattle.declarations.specs.Rows.{ports-row}
+use Rattle.marks.specs.Laws.Lists.{first-of, first-off, list-empty, via, spent}
+use Rattle.marks.specs.Laws.One.{on, stop, passed, there, absent}
+use Rattle.rules.specs.Grammar.{ports as portsAt}
+use Rattle.rules.specs.Readers.{any, give}
+use Rattle.tape.specs.Written.{nothing, as-words}
 use borrow.Author.Needs.{needs}
+use mathlib.Core.List.{[]}
+use mathlib.Core.Path.{sym, _∙_}
+use native.Mathlib.Omega.{arith}
 use Rattle.declarations.proofs.ports.Statement.{statement}
 use Rattle.declarations.proofs.ports.Tie as tie
-use Rattle.declarations.proofs.ports.Reads as reads
-use Rattle.declarations.proofs.ports.Lts as lts
-use Rattle.declarations.proofs.more_ports.Reads as more-ports-reads
-use Rattle.declarations.proofs.port.Reads as port-reads
-use Rattle.marks.proofs.mark.Reads as mark-reads
-use Rattle.marks.proofs.optional.Reads as optional-reads
 
--- src/lib.rt:206:9
-mark-requires : tie.Need-mark-requires
-mark-requires c κs = search needs
-
--- src/lib.rt:207:20
-enum-known-o : tie.Need-enum-known-o
-enum-known-o c = search needs
-
--- src/lib.rt:208:9
-enum-told : tie.Need-enum-told
-enum-told c = search needs
-
--- src/lib.rt:208:9
 returns : tie.Need-returns
-returns c = ?
+unfolding portsAt
+returns c = let p = c .enum-told .given .1 in rw p (stop _ _ _ (passed "[" _ _ (rw p at (c .before .before .mark .ensures .0))), tt)
 
--- src/lib.rt:210:9
 optional-requires : tie.Need-optional-requires
-optional-requires c κs = ?
+optional-requires c κs = let o = rw (c .before .o .given .1) at (c .before .before .before .mark .ensures .1) in omega arith
 
--- src/lib.rt:211:23
-enum-known-e : tie.Need-enum-known-e
-enum-known-e c = search needs
-
--- src/lib.rt:212:9
 returns-2 : tie.Need-returns-2
-returns-2 c = ?
+unfolding portsAt any give
+returns-2 c =
+    let o = rw (c .before .before .before .before .before .o .given .1) at (c .before .before .before .before .before .before .before .mark .ensures .1) in
+    let e = rw (c .before .e .given .1) at (c .before .before .before .optional .ensures .1) in (
+      record {
+        value = [];
+        reads = on _ _ _ (passed "[" _ _ (rw (c .before .before .before .before .before .o .given .1) at (c .before .before .before .before .before .before .before .mark .ensures .0))) ∙ there "]" _ _ _ _ (rw (c .before .e .given .1) at (c .before .before .before .optional .ensures .0));
+        wrote = as-words (sym (list-empty _)) (nothing _ _);
+        counts = omega arith;
+      },
+      omega arith,
+    )
 
-enum-told-2 : tie.Need-enum-told-2
-enum-told-2 c = search needs
-
--- src/lib.rt:214:9
 port-requires : tie.Need-port-requires
-port-requires c κs = ?
+port-requires c κs = let o = rw (c .before .before .before .before .before .o .given .1) at (c .before .before .before .before .before .before .before .mark .ensures .1) in omega (arith, c .before .before .before .before .before .before .before .before .before .before .pre)
 
--- src/lib.rt:215:20
-enum-known-first : tie.Need-enum-known-first
-enum-known-first c = search needs
-
--- src/lib.rt:216:9
-enum-told-3 : tie.Need-enum-told-3
-enum-told-3 c = search needs
-
--- src/lib.rt:216:9
-same-length : tie.Need-same-length
-same-length c = search needs
-
--- src/lib.rt:216:9
 returns-3 : tie.Need-returns-3
-returns-3 c = ?
+unfolding portsAt any
+returns-3 c =
+    let p = c .enum-told3 .given .1 in
+    rw p (on _ _ _ (passed "[" _ _ (rw (c .before .before .before .before .before .before .before .before .before .before .o .given .1) at (c .before .before .before .before .before .before .before .before .before .before .before .before .mark .ensures .0))) ∙ absent "]" _ _ _ _ (rw (c .before .before .before .before .before .before .enum-told2 .given .1) at (c .before .before .before .before .before .before .before .before .optional .ensures .0)) ∙ first-off (ports-row _ (c .before .before .before .before .before .before .before .before .before .before .before .before .before .before .before .args .kind)) _ _ (rw p at (c .before .before .before .before .port .ensures .0)), tt)
 
--- src/lib.rt:218:40
 add-more-ports : tie.Need-add-more-ports
-add-more-ports c = ?
+add-more-ports c = let f = rw (c .before .before .first .given .1) at (c .before .before .before .before .before .before .port .ensures .1 .1) in omega arith
 
--- src/lib.rt:218:5
 more-ports-requires : tie.Need-more-ports-requires
-more-ports-requires c κs = ?
+more-ports-requires c κs =
+    let o = rw (c .before .before .before .before .before .before .before .before .before .before .before .before .o .given .1) at (c .before .before .before .before .before .before .before .before .before .before .before .before .before .before .mark .ensures .1) in
+    let f = rw (c .before .before .first .given .1) at (c .before .before .before .before .before .before .port .ensures .1 .0) in
+    omega (arith, c .before .before .before .before .before .before .before .before .before .before .before .before .before .before .before .before .before .pre, c .before .before .before .before .before .before .port .kept .1 .0)
 
--- src/lib.rt:201:1
-same-length-2 : tie.Need-same-length-2
-same-length-2 c = search needs
-
--- src/lib.rt:201:1
 returns-4 : tie.Need-returns-4
-returns-4 c = ?
+unfolding portsAt any
+returns-4 c =
+    let o = rw (c .before .before .before .before .before .before .before .before .before .before .before .before .before .before .before .o .given .1) at (c .before .before .before .before .before .before .before .before .before .before .before .before .before .before .before .before .before .mark .ensures .1) in
+    let f = rw (c .before .before .before .before .before .first .given .1) at (c .before .before .before .before .before .before .before .before .before .port .ensures .1 .0) in (
+      via _ _ _ _ _ (c .before .before .more-ports .result) (on _ _ _ (passed "[" _ _ (rw (c .before .before .before .before .before .before .before .before .before .before .before .before .before .before .before .o .given .1) at (c .before .before .before .before .before .before .before .before .before .before .before .before .before .before .before .before .before .mark .ensures .0))) ∙ absent "]" _ _ _ _ (rw (c .before .before .before .before .before .before .before .before .before .before .before .enum-told2 .given .1) at (c .before .before .before .before .before .before .before .before .before .before .before .before .before .optional .ensures .0)))
+          (first-of (ports-row _ _) _ _ _ (c .before .before .more-ports .result) (rw (c .before .before .before .before .before .first .given .1) at (c .before .before .before .before .before .before .before .before .before .port .ensures .0)) (c .before .before .before .before .before .before .before .before .before .before .before .before .before .before .before .before .before .before .before .before .args .count + 1) (omega arith) (c .before .before .more-ports .ensures .0)),
+      spent 1 2 _ (c .before .before .before .before .before .before .before .before .before .before .before .before .before .before .before .before .before .before .before .before .args .at) (c .before .before .before .before .before .first .given .0 .0) (c .before .before .before .before .before .before .before .before .before .before .before .before .before .before .before .before .before .before .before .before .args .to) (c .before .before .before .before .before .first .given .0 .1 .0) (c .before .before .more-ports .result) (omega arith) (omega arith) (omega arith) (c .before .before .more-ports .ensures .1),
+    )
 
 pub ports-spec : {M : Type 1} → statement M
 ports-spec =
     tie.close
     (tie.spec
-    mark-requires
-    enum-known-o
-    enum-told
+    (λ c κs. search needs)
+    (λ c. search needs)
+    (λ c. search needs)
     returns
     optional-requires
-    enum-known-e
+    (λ c. search needs)
     returns-2
-    enum-told-2
+    (λ c. search needs)
     port-requires
-    enum-known-first
-    enum-told-3
-    same-length
+    (λ c. search needs)
+    (λ c. search needs)
+    (λ c. search needs)
     returns-3
     add-more-ports
     more-ports-requires
-    same-length-2
+    (λ c. search needs)
     returns-4)

@@ -17,9 +17,10 @@ returns c =
     (num-got _ _ _ _ (rw (c .before .before .before .before .before .o .given .1) at (c .before .before .before .before .before .before .before .optional .ensures .0)) (c .before .before .store-name .ensures), omega arith)
 
 returns-2 : tie.Need-returns-2
-returns-2 c =
-    (via _ _ _ _ _ (c .before .before .typed .result) (absent "NUM" _ _ _ _ (rw (c .before .before .before .before .enum-told .given .1) at (c .before .before .before .before .before .before .optional .ensures .0))) (c .before .before .typed .ensures .0),
-      spent 2 1 _ (c .before .before .before .before .before .before .before .before .before .args .at) (c .before .before .before .before .before .before .before .before .before .args .at) (c .before .before .before .before .before .before .before .before .before .args .to) (c .before .before .before .before .before .before .before .before .before .args .to) (c .before .before .typed .result) (omega arith) (omega arith) (omega arith) (c .before .before .typed .ensures .1))
+returns-2 c = (
+  via _ _ _ _ _ (c .before .before .typed .result) (absent "NUM" _ _ _ _ (rw (c .before .before .before .before .enum-told .given .1) at (c .before .before .before .before .before .before .optional .ensures .0))) (c .before .before .typed .ensures .0),
+  spent 2 1 _ (c .before .before .before .before .before .before .before .before .before .args .at) (c .before .before .before .before .before .before .before .before .before .args .at) (c .before .before .before .before .before .before .before .before .before .args .to) (c .before .before .before .before .before .before .before .before .before .args .to) (c .before .before .typed .result) (omega arith) (omega arith) (omega arith) (c .before .before .typed .ensures .1),
+)
 
 pub sort-spec : {M : Type 1} → statement M
 sort-spec =

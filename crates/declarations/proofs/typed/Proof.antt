@@ -16,9 +16,10 @@ vector-requires c κs = let o = rw (c .before .before .before .before .before .b
 
 returns : tie.Need-returns
 returns c =
-    let o = rw (c .before .before .before .before .before .before .before .before .before .o .given .1) at (c .before .before .before .before .before .before .before .before .before .before .before .optional .ensures .1) in
-    (vector-gives _ _ _ _ (rw (c .before .before .before .before .before .before .before .before .before .o .given .1) at (c .before .before .before .before .before .before .before .before .before .before .before .optional .ensures .0)) _ _ _ _ (c .before .before .before .before .before .before .store-name .ensures) (c .before .before .vector .result) (c .before .before .vector .ensures .0),
-      spent 3 2 _ (c .before .before .before .before .before .before .before .before .before .before .before .before .before .before .args .at) (c .before .before .before .before .before .before .before .before .before .o .given .0 .0) (c .before .before .before .before .before .before .before .before .before .before .before .before .before .before .args .to) (c .before .before .before .before .before .before .before .before .before .before .before .before .before .before .args .to + 1) (c .before .before .vector .result) (omega arith) (omega arith) (omega arith) (c .before .before .vector .ensures .1))
+    let o = rw (c .before .before .before .before .before .before .before .before .before .o .given .1) at (c .before .before .before .before .before .before .before .before .before .before .before .optional .ensures .1) in (
+      vector-gives _ _ _ _ (rw (c .before .before .before .before .before .before .before .before .before .o .given .1) at (c .before .before .before .before .before .before .before .before .before .before .before .optional .ensures .0)) _ _ _ _ (c .before .before .before .before .before .before .store-name .ensures) (c .before .before .vector .result) (c .before .before .vector .ensures .0),
+      spent 3 2 _ (c .before .before .before .before .before .before .before .before .before .before .before .before .before .before .args .at) (c .before .before .before .before .before .before .before .before .before .o .given .0 .0) (c .before .before .before .before .before .before .before .before .before .before .before .before .before .before .args .to) (c .before .before .before .before .before .before .before .before .before .before .before .before .before .before .args .to + 1) (c .before .before .vector .result) (omega arith) (omega arith) (omega arith) (c .before .before .vector .ensures .1),
+    )
 
 returns-2 : tie.Need-returns-2
 returns-2 c = let p = c .enum-told2 .given .1 in rw p (wire-off _ 0 0 _ (rw (c .before .before .before .enum-told .given .1) at (c .before .before .before .before .before .optional .ensures .0)) (passed "WIRE" _ _ (rw p at (c .before .before .mark .ensures .0))), tt)

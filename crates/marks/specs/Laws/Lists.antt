@@ -1,5 +1,5 @@
 -- Laws of lists, read by a loop. Assumes nothing.
-use mathlib.Core.Path.{_≡_, refl, sym, ap, _∙_}
+use mathlib.Core.Path.{_≡_, refl, sym, ap, _∙_, subst}
 use Prim.Native.Nat.{ℕ, zero, suc, _+_, _*_, _≤_, _<_}
 use Prim.Native.String.{String}
 use mathlib.Core.Bool.{Bool, true, false}
@@ -77,7 +77,7 @@ pub record Row (s : List ℕ) {A B : Type 0} (one : A → ℕ) (f : A → List �
 module _ {s : List ℕ} {A B : Type 0} {one : A → ℕ} {f : A → List ℕ} {size : ℕ → B → ℕ} {g : B → List ℕ} {none : B} {more : A → B → B} {item : ℕ → ℕ → Reader A} {sep close : String}
     (R : Row s one f size g none more item sep close) where
   -- an item and the rest
-  and-rest : (o : Out (A × ℕ)) (k : ℕ) {t : List ℕ} {to : ℕ} {u : List ℕ} {n m c : ℕ} (v : List ℕ) (r : Read) → Got one f o t to u n m c → Gives (size (suc k)) g (rest s none more item sep close (suc k) n) u m v r
+  pub and-rest : (o : Out (A × ℕ)) (k : ℕ) {t : List ℕ} {to : ℕ} {u : List ℕ} {n m c : ℕ} (v : List ℕ) (r : Read) → Got one f o t to u n m c → Gives (size (suc k)) g (rest s none more item sep close (suc k) n) u m v r
       → Gives (size k) g (_and-then_ o (λ x. (rest s none more item sep close (suc k) >>= λ l. give (more (x .0) l)) (x .1))) t to v r
   unfolding _and-then_ _>>=_ give
   and-rest o k v (Done x y z) a b = record {
@@ -93,6 +93,11 @@ module _ {s : List ℕ} {A B : Type 0} {one : A → ℕ} {f : A → List ℕ} {s
       → Gives (size k) g (some s none more item sep close k at) t to v r
   unfolding some _>>=_
   first k at v r a b = and-rest (item k 0 at) k v r a b
+
+  -- where the items are counted
+  pub first-of : (k at : ℕ) {t : List ℕ} {to : ℕ} {u : List ℕ} {n m c : ℕ} (v : List ℕ) (r : Read) → Got one f (item k 0 at) t to u n m c → (j : ℕ) → j ≡ suc k → Gives (size j) g (rest s none more item sep close j n) u m v r
+      → Gives (size k) g (some s none more item sep close k at) t to v r
+  first-of k at {u = u} {n} {m} v r a j e b = first k at v r a (subst (λ i. Gives (size i) g (rest s none more item sep close i n) u m v r) e b)
 
   pub first-off : (k at : ℕ) {j p : ℕ} → item k 0 at ≡ refuse j p → some s none more item sep close k at ≡ refuse j p
   unfolding some _>>=_ _and-then_
