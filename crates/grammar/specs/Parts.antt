@@ -9,13 +9,16 @@ use Rattle.rules.specs.Text.{pick}
 use Rattle.rules.specs.Outcome.{Out, ok, refuse}
 use Rattle.rules.specs.Syntax.{Name, Decl, Block}
 use Rattle.rules.specs.Readers.{Reader, _>>=_, give, spelling, mark, aName, rest}
-use Rattle.rules.specs.Grammar.{local, generics, ports, statement, statementsOf, body, aBlock}
+use Rattle.rules.specs.Grammar.{local, generics, ports, statement, statementsOf, body, aBlock, blocks}
 use Rattle.tape.specs.Layout.{pack, BLOCK, IN, OUT, VAR, BODY, spelt, nameW}
 use Rattle.tape.specs.Encoding.{listW, declW, genericW, stmtsW, blockW, calleeW}
-use Rattle.tape.specs.Written.{Got, none, stored, later, patch, as-words}
+use Rattle.tape.specs.Written.{Got, Gives, none, stored, later, patch, as-words}
+use Rattle.tape.specs.declared.Read.{Read}
 use Rattle.marks.specs.Laws.One.{on, stop, spelt-is}
+use Rattle.marks.specs.Laws.Lists.{and-rest, via}
 use Rattle.declarations.specs.Kept.{from}
 use Rattle.grammar.specs.Titles.{Titled}
+use Rattle.grammar.specs.Rows.{blocks-row}
 
 -- ---- a block up to its BEGIN
 
@@ -95,3 +98,18 @@ module _ (s : List ℕ) (k p at : ℕ) (h : k < 64) where
       wrote = as-words (simp append-assoc) (later (T .wrote) (patch (λ l. pack BODY 0 l) (d .wrote) f));
       counts = refl;
     }
+
+-- ---- a text
+
+pub text-off : (s : List ℕ) {p a j x : ℕ} → mark s "BLOCK" 0 ≡ ok (p, a) → aBlock s 0 p a ≡ refuse j x → blocks s 0 ≡ refuse j x
+unfolding blocks
+text-off s o b = on _ _ _ o ∙ stop _ _ _ b
+
+text-is : (s : List ℕ) {p a : ℕ} → mark s "BLOCK" 0 ≡ ok (p, a) → blocks s 0 ≡ (aBlock s 0 p >>= λ b. rest s [] _∷_ (aBlock s) "BLOCK" "" 1 >>= λ r. give (b ∷ r)) a
+unfolding blocks
+text-is s o = on _ _ _ o
+
+pub text-gives : (s : List ℕ) {p a : ℕ} → mark s "BLOCK" 0 ≡ ok (p, a) → {t : List ℕ} {to : ℕ} {u : List ℕ} {n m c : ℕ} → Got none (blockW nameW calleeW) (aBlock s 0 p a) t to u n m c
+    → (v : List ℕ) (r : Read) → Gives (from 1) (listW (blockW nameW calleeW)) (rest s [] _∷_ (aBlock s) "BLOCK" "" 1 n) u m v r → Gives (from 0) (listW (blockW nameW calleeW)) (blocks s 0) t to v r
+unfolding _>>=_
+text-gives s {p} {a} o {t} {to} g v r h = via _ _ t to v r (text-is s o) (and-rest (blocks-row s) (aBlock s 0 p a) 0 v r g h)

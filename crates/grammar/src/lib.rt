@@ -11,7 +11,6 @@ ghost use Rattle.tape.specs.Written.{Gives, none};
 ghost use Rattle.marks.specs.Room.{Room, Spends};
 ghost use Rattle.declarations.specs.Kept.{Below, from};
 ghost use Rattle.grammar.specs.Titles.{Titles};
-
 use marks::Divided;
 use marks::Key;
 use tape::Kind;

@@ -1,73 +1,51 @@
+-- `grammar::blocks` meets its contract. Assumes nothing.
+use Prim.Native.Nat.{_-_}
+use Rattle.grammar.specs.Parts.{text-off, text-gives}
+use Rattle.marks.specs.Laws.Lists.{spent}
+use Rattle.marks.specs.Laws.One.{stop, passed}
+use Rattle.rules.specs.Grammar.{blocks as blocksAt}
 use borrow.Author.Needs.{needs}
+use native.Mathlib.Omega.{arith}
 use Rattle.grammar.proofs.blocks.Statement.{statement}
 use Rattle.grammar.proofs.blocks.Tie as tie
-use Rattle.grammar.proofs.blocks.Reads as reads
-use Rattle.grammar.proofs.blocks.Lts as lts
-use Rattle.grammar.proofs.block.Reads as block-reads
-use Rattle.grammar.proofs.more_blocks.Reads as more-blocks-reads
-use Rattle.marks.proofs.mark.Reads as mark-reads
 
--- src/lib.rt:113:9
-mark-requires : tie.Need-mark-requires
-mark-requires c κs = search needs
-
--- src/lib.rt:114:20
-enum-known-o : tie.Need-enum-known-o
-enum-known-o c = search needs
-
--- src/lib.rt:115:9
-enum-told : tie.Need-enum-told
-enum-told c = search needs
-
--- src/lib.rt:115:9
 returns : tie.Need-returns
-returns c = ?
+unfolding blocksAt
+returns c = let p = c .enum-told .given .1 in rw p (stop _ _ _ (passed "BLOCK" _ _ (rw p at (c .before .before .mark .ensures .0))), tt)
 
--- src/lib.rt:117:9
 block-requires : tie.Need-block-requires
-block-requires c κs = ?
+block-requires c κs = let o = rw (c .before .before .o .given .1) at (c .before .before .before .before .mark .ensures .1) in omega (arith, c .before .before .before .before .before .before .before .pre)
 
--- src/lib.rt:118:20
-enum-known-first : tie.Need-enum-known-first
-enum-known-first c = search needs
-
--- src/lib.rt:119:9
-enum-told-2 : tie.Need-enum-told-2
-enum-told-2 c = search needs
-
--- src/lib.rt:119:9
-same-length : tie.Need-same-length
-same-length c = search needs
-
--- src/lib.rt:119:9
 returns-2 : tie.Need-returns-2
-returns-2 c = ?
+returns-2 c = let p = c .enum-told2 .given .1 in rw p (text-off _ (passed "BLOCK" _ _ (rw (c .before .before .before .before .before .before .before .o .given .1) at (c .before .before .before .before .before .before .before .before .before .mark .ensures .0))) (rw p at (c .before .before .before .before .block .ensures .0)), tt)
 
--- src/lib.rt:121:5
 more-blocks-requires : tie.Need-more-blocks-requires
-more-blocks-requires c κs = ?
+more-blocks-requires c κs =
+    let o = rw (c .before .before .before .before .before .before .before .before .before .o .given .1) at (c .before .before .before .before .before .before .before .before .before .before .before .mark .ensures .1) in
+    let f = rw (c .before .before .first .given .1) at (c .before .before .before .before .before .before .block .ensures .1 .0) in
+    omega (arith, c .before .before .before .before .before .before .before .before .before .before .before .before .before .before .pre, c .before .before .before .before .before .before .block .kept .1 .0)
 
--- src/lib.rt:108:1
-same-length-2 : tie.Need-same-length-2
-same-length-2 c = search needs
-
--- src/lib.rt:108:1
 returns-3 : tie.Need-returns-3
-returns-3 c = ?
+returns-3 c =
+    let o = rw (c .before .before .before .before .before .before .before .before .before .before .before .before .o .given .1) at (c .before .before .before .before .before .before .before .before .before .before .before .before .before .before .mark .ensures .1) in
+    let f = rw (c .before .before .before .before .before .first .given .1) at (c .before .before .before .before .before .before .before .before .before .block .ensures .1 .0) in (
+      text-gives _ (passed "BLOCK" _ _ (rw (c .before .before .before .before .before .before .before .before .before .before .before .before .o .given .1) at (c .before .before .before .before .before .before .before .before .before .before .before .before .before .before .mark .ensures .0))) (rw (c .before .before .before .before .before .first .given .1) at (c .before .before .before .before .before .before .before .before .before .block .ensures .0)) _ (c .before .before .more-blocks .result) (c .before .before .more-blocks .ensures .0),
+      spent 0 15 _ 0 (c .before .before .before .before .before .first .given .0 .0) (c .before .before .before .before .before .before .before .before .before .before .before .before .before .before .before .before .before .args .to) (c .before .before .before .before .before .first .given .0 .1 .0) (c .before .before .more-blocks .result) (omega arith) (omega arith) (omega arith) (c .before .before .more-blocks .ensures .1),
+    )
 
 pub blocks-spec : {M : Type 1} → statement M
 blocks-spec =
     tie.close
     (tie.spec
-    mark-requires
-    enum-known-o
-    enum-told
+    (λ c κs. search needs)
+    (λ c. search needs)
+    (λ c. search needs)
     returns
     block-requires
-    enum-known-first
-    enum-told-2
-    same-length
+    (λ c. search needs)
+    (λ c. search needs)
+    (λ c. search needs)
     returns-2
     more-blocks-requires
-    same-length-2
+    (λ c. search needs)
     returns-3)

@@ -61,9 +61,14 @@ loop-less c =
 loop-again : tie.Need-loop-again Inv-loop μ-loop
 loop-again c =
     let x = rw (c .before .before .before .before .before .before .before .before .d3 .given .1) at (c .before .before .before .before .before .before .before .before .before .before .separator .ensures .1) in
-    let u = rw (c .before .item .given .1) at (c .before .before .before .before .before .block .ensures .1 .0) in
-    (onto (blocks-row _) (c .before .before .before .before .before .before .before .before .before .before .before .loop .inv .0) (c .before .before .before .before .before .before .before .before .before .before .before .loop .inv .3) (sym (c .before .before .before .before .before .before .before .before .d3 .given .1) ∙ c .before .before .before .before .before .before .before .before .before .before .separator .ensures .0) (rw (c .before .item .given .1) at (c .before .before .before .before .before .block .ensures .0)) _ (omega arith),
-      c .before .before .before .before .before .block .kept .1 .0 ∙ c .before .before .before .before .before .before .before .before .before .before .before .loop .inv .1, omega (arith, c .before .before .before .before .before .before .before .before .before .before .before .loop .inv), omega arith, omega (arith, c .before .before .before .before .before .before .before .before .before .before .before .loop .inv), omega (arith, c .before .before .before .before .before .before .before .before .before .before .before .loop .inv))
+    let u = rw (c .before .item .given .1) at (c .before .before .before .before .before .block .ensures .1 .0) in (
+      onto (blocks-row _) (c .before .before .before .before .before .before .before .before .before .before .before .loop .inv .0) (c .before .before .before .before .before .before .before .before .before .before .before .loop .inv .3) (sym (c .before .before .before .before .before .before .before .before .d3 .given .1) ∙ c .before .before .before .before .before .before .before .before .before .before .separator .ensures .0) (rw (c .before .item .given .1) at (c .before .before .before .before .before .block .ensures .0)) _ (omega arith),
+      c .before .before .before .before .before .block .kept .1 .0 ∙ c .before .before .before .before .before .before .before .before .before .before .before .loop .inv .1,
+      omega (arith, c .before .before .before .before .before .before .before .before .before .before .before .loop .inv),
+      omega arith,
+      omega (arith, c .before .before .before .before .before .before .before .before .before .before .before .loop .inv),
+      omega (arith, c .before .before .before .before .before .before .before .before .before .before .before .loop .inv),
+    )
 
 pub more-blocks-spec : {M : Type 1} → statement M
 more-blocks-spec =
