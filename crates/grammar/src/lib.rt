@@ -11,6 +11,7 @@ ghost use Rattle.tape.specs.Written.{Gives, none};
 ghost use Rattle.marks.specs.Room.{Room, Spends};
 ghost use Rattle.declarations.specs.Kept.{Below, from};
 ghost use Rattle.grammar.specs.Titles.{Titles};
+ghost use Rattle.grammar.specs.Promise.{Reads};
 use marks::Divided;
 use marks::Key;
 use tape::Kind;
@@ -118,4 +119,25 @@ pub fn blocks(text: &[u8], tape: &mut [u32], to: usize) -> Read
         return first;
     };
     more_blocks(text, tape, n, m)
+}
+
+// A text onto the lent work table, whatever stood there: where the text ends, how many words and how many blocks it has; or a refusal's
+// number and place, 1 to 5, and the table all zeros.
+pub fn read_program(text: &[u8], table: &mut [u32]) -> Read
+    ensures { λ r. ⌜ Reads (now (text .entry)) (now (table .entry)) r (now (table .exit)) ⌝ }
+{
+    if table.len() < 16384 {
+        tape::clear(table);
+        return Read::No(1, 0);
+    }
+    if text.len() > 16384 {
+        tape::clear(table);
+        return Read::No(2, 0);
+    }
+    let r = blocks(text, table, 0);
+    let Read::Done(_, m, k) = r else {
+        tape::clear(table);
+        return r;
+    };
+    Read::Done(text.len(), m, k)
 }
