@@ -1,82 +1,43 @@
+-- `grammar::read_program` meets its contract. Assumes nothing.
+use Rattle.grammar.specs.Promise.{table-short, text-long, text-refused, text-stands}
 use borrow.Author.Needs.{needs}
+use lib.ListN.{replicate}
+use mathlib.Core.Path.{refl, ap, _∙_}
+use native.Mathlib.Omega.{arith}
 use Rattle.grammar.proofs.read_program.Statement.{statement}
 use Rattle.grammar.proofs.read_program.Tie as tie
-use Rattle.grammar.proofs.read_program.Reads as reads
-use Rattle.grammar.proofs.read_program.Lts as lts
-use Rattle.grammar.proofs.blocks.Reads as blocks-reads
-use Rattle.tape.proofs.clear.Reads as clear-reads
 
--- src/lib.rt:130:9
-clear-requires : tie.Need-clear-requires
-clear-requires c κs = search needs
-
--- src/lib.rt:131:9
-same-length : tie.Need-same-length
-same-length c = search needs
-
--- src/lib.rt:131:9
 returns : tie.Need-returns
-returns c = ?
+returns c = (table-short _ (c .before .before .before .before .before .before .before .args .table .now) (c .before .before .before .before .if1 .taken), c .before .before .clear .ensures)
 
--- src/lib.rt:134:9
-clear-requires-2 : tie.Need-clear-requires-2
-clear-requires-2 c κs = search needs
-
--- src/lib.rt:135:9
-same-length-2 : tie.Need-same-length-2
-same-length-2 c = search needs
-
--- src/lib.rt:135:9
 returns-2 : tie.Need-returns-2
-returns-2 c = ?
+returns-2 c = (text-long _ (c .before .before .before .before .before .before .before .before .args .table .now) (c .before .before .before .before .before .if1 .left) (c .before .before .before .before .if2 .taken), c .before .before .clear2 .ensures)
 
--- src/lib.rt:137:9
-blocks-requires : tie.Need-blocks-requires
-blocks-requires c κs = search needs
-
--- src/lib.rt:138:23
-enum-known-r : tie.Need-enum-known-r
-enum-known-r c = search needs
-
--- src/lib.rt:139:21
-enum-told : tie.Need-enum-told
-enum-told c = search needs
-
--- src/lib.rt:139:9
-clear-requires-3 : tie.Need-clear-requires-3
-clear-requires-3 c κs = search needs
-
--- src/lib.rt:140:9
-same-length-3 : tie.Need-same-length-3
-same-length-3 c = search needs
-
--- src/lib.rt:140:9
 returns-3 : tie.Need-returns-3
-returns-3 c = ?
+returns-3 c =
+    let p = c .before .before .before .before .enum-told .given .1 in
+    rw p (text-refused _ (c .before .before .before .before .before .before .before .before .before .before .before .before .before .before .args .table .now) (c .before .before .before .before .before .before .before .before .before .before .before .if1 .left) (c .before .before .before .before .before .before .before .before .before .before .if2 .left) (rw p at (c .before .before .before .before .before .before .before .before .blocks2 .ensures .0)), c .before .before .clear3 .ensures ∙ ap (λ n. replicate n 0) (c .before .before .before .before .before .before .before .before .blocks2 .kept .1 .0))
 
--- src/lib.rt:126:1
-same-length-4 : tie.Need-same-length-4
-same-length-4 c = search needs
-
--- src/lib.rt:126:1
 returns-4 : tie.Need-returns-4
-returns-4 c = ?
+returns-4 c =
+    let h = rw (c .before .r .given .1) at (c .before .before .before .before .before .blocks2 .ensures .1) in
+    text-stands _ (c .before .before .before .before .before .before .before .before .before .before .before .args .table .now) (c .before .before .before .before .before .before .before .before .if1 .left) (c .before .before .before .before .before .before .before .if2 .left) (rw (c .before .r .given .1) at (c .before .before .before .before .before .blocks2 .ensures .0)) (omega arith) _ refl
 
 pub read-program-spec : {M : Type 1} → statement M
 read-program-spec =
     tie.close
     (tie.spec
-    clear-requires
-    same-length
+    (λ c κs. search needs)
+    (λ c. search needs)
     returns
-    clear-requires-2
-    same-length-2
+    (λ c κs. search needs)
+    (λ c. search needs)
     returns-2
-    blocks-requires
-    enum-known-r
-    enum-told
-    clear-requires-3
-    same-length-3
+    (λ c κs. search needs)
+    (λ c. search needs)
+    (λ c. search needs)
+    (λ c κs. search needs)
+    (λ c. search needs)
     returns-3
-    same-length-4
+    (λ c. search needs)
     returns-4)
