@@ -1,21 +1,21 @@
 -- Where the word at a place stands, from the definition of a word alone. Assumes nothing.
-use mathlib.Core.Path.{_≡_, refl, sym, ap, _∙_, subst}
-use mathlib.Core.Bool.{Bool, true, false, _&&_, _||_}
+use mathlib.Core.Path.{_≡_, refl, sym, subst}
+use mathlib.Core.Bool.{_&&_, _||_}
 use mathlib.Core.List.{List, [], _∷_, map}
 use Prim.Native.Nat.{ℕ, zero, suc, _+_, _-_, _*_, _<_, _≤_}
 use native.Mathlib.Omega.{arith}
 use native.Mathlib.Decide.{decLt}
-use lib.Dec.{T, ltb, leb, eqb, ltb→lt, leb→le, eqb→eq}
+use lib.Dec.{T, leb, eqb, ltb→lt, leb→le, eqb→eq}
 use lib.ListN.{length, getD, take, drop, length-take, length-drop, List·getD-eq-default}
 use lib.Seq.{drop-cons}
 use borrow.Author.Tests.{ne-eqb}
-use Rattle.rules.specs.Text.{bytes, pick, indexOf}
+use Rattle.rules.specs.Text.{bytes}
 use Rattle.rules.specs.Words.{isSeparator, isDigit, isLetter, isMark, inWord, reserved, run, all, valueOf, spelled, begun, wordAt}
 use Rattle.rules.specs.declared.Word.{Word}
-use Rattle.rules.specs.declared.Word.the-variants.{Bad, Name, Number, Mark}
+use Rattle.rules.specs.declared.Word.the-variants.{Name, Number, Mark}
 use Rattle.rules.specs.Laws.Outcomes.{both-yes}
 use Rattle.rules.specs.Laws.Placed.{pick-of, run-most, run-some}
-use Rattle.words.specs.Onward.{Onward, width, widths}
+use Rattle.words.specs.Onward.{Onward, width, widths, wide}
 use Rattle.words.proofs.Classes.{either}
 use Rattle.words.proofs.Same.{found-length}
 
@@ -69,45 +69,47 @@ mark-byte b t =
         (omega arith, omega arith, λ f. omega arith)
 
 mark-width : (b : ℕ) → 40 ≤ b → (b ≡ 46 → ⊥) → width b ≡ 1
-unfolding width pick
+unfolding width
 mark-width b h n =
     let l : 15 ≤ b = omega arith in
     rw (ne-eqb b 46 n) (List·getD-eq-default widths 1 l)
 
-dots-width : (b : ℕ) → b ≡ 46 → width b ≡ 2
-unfolding width pick
-dots-width b e = rw e
-
-end-width : width 0 ≡ 0
-unfolding width pick
-end-width = refl
-
 reserved-width : (k : ℕ) → k < 14 → width (suc k) ≡ getD (map length (map bytes reserved)) k 1
-unfolding width pick
+unfolding width
 reserved-width k h = let n : suc k ≡ 46 → ⊥ = λ e. omega arith in rw (ne-eqb (suc k) 46 n)
 
--- ---- the places
+-- ---- the places of each kind of word
 
 module _ (len at p q : ℕ) (w : List ℕ) (a : at ≤ p) (e : q ≡ p + length w) (b : p < q) (c : q ≤ len) where
+  reserved-onward : (k : ℕ) → k < 14 → length w ≡ getD (map length (map bytes reserved)) k 1 → Onward len at (Mark (suc k) p q)
+  reserved-onward k h l =
+      let r = reserved-width k h in
+      (omega arith, omega arith, c, omega arith, λ z. absurd (omega arith))
+
+  number-onward : T (all isDigit w && leb (length w) 6) → Onward len at (Number p q (valueOf 0 w))
+  number-onward t =
+      let (d, l) = both-yes (all isDigit w) (leb (length w) 6) t in
+      let m = leb→le (length w) 6 l in
+      let v = value-below w 0 1 d (omega arith) in
+      (a, b, c, omega arith, omega (arith, million (length w) m))
+
+  name-onward : T (isLetter (getD w 0 0) && leb (length w) 16) → Onward len at (Name p q)
+  name-onward t = let m = leb→le (length w) 16 (both-yes (isLetter (getD w 0 0)) (leb (length w) 16) t .1) in (a, b, c, omega arith)
+
   spelled-onward : Onward len at (spelled p q w)
   unfolding spelled
   spelled-onward =
-      pick-of (Onward len at) _ _ _
-      (λ t. let i = ltb→lt _ _ t in
-      let r = found-length w (map bytes reserved) 1 i ∙ sym (reserved-width (indexOf w (map bytes reserved)) i) in
-      (omega arith, omega arith, c, omega arith, λ z. absurd (omega arith)))
-      (λ t. pick-of (Onward len at) _ _ _
-      (λ t. let (d, l) = both-yes (all isDigit w) (leb (length w) 6) t in
-      let m = leb→le (length w) 6 l in
-      let v = value-below w 0 1 d (omega arith) in
-      (a, b, c, omega arith, omega (arith, million (length w) m)))
-      (λ t. pick-of (Onward len at) _ _ _
-      (λ t. let m = leb→le (length w) 16 (both-yes (isLetter (getD w 0 0)) (leb (length w) 16) t .1) in (a, b, c, omega arith))
-      (λ t. (a, omega arith))))
+      let d : p < len = omega arith in
+      pick-of (Onward len at) _ _ _ (λ t. let i = ltb→lt _ _ t in reserved-onward _ i (found-length w (map bytes reserved) 1 i))
+      (λ t. pick-of (Onward len at) _ _ _ number-onward (λ t. pick-of (Onward len at) _ _ _ name-onward (λ t. (a, d))))
 
-word-run : (s : List ℕ) (p : ℕ) → p < length s → T (inWord (getD s p 0)) → 0 < run inWord (drop p s)
-word-run s p h t = subst (λ l. 0 < run inWord l) (sym (drop-cons s p 0 h)) (run-some inWord (getD s p 0) (drop (suc p) s) t)
+mark-onward : (len at p b : ℕ) → at ≤ p → p < len → T (isMark b) → Onward len at (Mark b p (p + 1))
+mark-onward len at p b a h t =
+    let (l, m, n) = mark-byte b t in
+    let w = mark-width b l n in
+    (omega arith, omega arith, omega arith, m, λ z. absurd (omega arith))
 
+-- a second dot lies within the text
 dots-fit : (s : List ℕ) (p : ℕ) → T (eqb (getD s (p + 1) 0) 46) → p + 2 ≤ length s
 dots-fit s p t = go (decLt (p + 1) (length s))
   where
@@ -115,32 +117,38 @@ dots-fit s p t = go (decLt (p + 1) (length s))
     go (yes l) = omega arith
     go (no l) = let z : length s ≤ p + 1 = omega arith in absurd (omega (arith, eqb→eq (getD s (p + 1) 0) 46 t, List·getD-eq-default s 0 z))
 
-begun-onward : (s : List ℕ) (at p : ℕ) → at ≤ p → p < length s → Onward (length s) at (begun s p)
-unfolding begun
-begun-onward s at p a h =
-    pick-of (Onward (length s) at) _ _ _
-    (λ t. let n = word-run s p h t in
+dots-onward : (s : List ℕ) (at p b : ℕ) → at ≤ p → T (eqb b 46 && eqb (getD s (p + 1) 0) 46) → Onward (length s) at (Mark b p (p + 2))
+dots-onward s at p b a t =
+    let (x, y) = both-yes (eqb b 46) (eqb (getD s (p + 1) 0) 46) t in
+    let e = eqb→eq b 46 x in
+    let f = dots-fit s p y in
+    let w = wide 46 e in
+    (omega arith, omega arith, f, omega arith, λ z. absurd (omega arith))
+
+word-onward : (s : List ℕ) (at p : ℕ) → at ≤ p → p < length s → T (inWord (getD s p 0))
+    → Onward (length s) at (spelled p (p + run inWord (drop p s)) (take (run inWord (drop p s)) (drop p s)))
+word-onward s at p a h t =
+    let n : 0 < run inWord (drop p s) = subst (λ l. 0 < run inWord l) (sym (drop-cons s p 0 h)) (run-some inWord (getD s p 0) (drop (suc p) s) t) in
     let m = run-most inWord (drop p s) in
     let d = length-drop p s in
     let l : length (take (run inWord (drop p s)) (drop p s)) ≡ run inWord (drop p s) = rw length-take (omega arith) in
-    spelled-onward (length s) at p (p + run inWord (drop p s)) (take (run inWord (drop p s)) (drop p s)) a (omega arith) (omega arith) (omega arith))
-    (λ t. pick-of (Onward (length s) at) _ _ _
-    (λ t. let (l, m, n) = mark-byte (getD s p 0) t in
-    let x = mark-width (getD s p 0) l n in
-    (omega arith, omega arith, omega arith, m, λ z. absurd (omega arith)))
-    (λ t. pick-of (Onward (length s) at) _ _ _
-    (λ t. let (x, y) = both-yes (eqb (getD s p 0) 46) (eqb (getD s (p + 1) 0) 46) t in
-    let e = eqb→eq (getD s p 0) 46 x in
-    let f = dots-fit s p y in
-    let z = dots-width (getD s p 0) e in
-    (omega arith, omega arith, f, omega arith, λ z. absurd (omega arith)))
-    (λ t. (a, h))))
+    spelled-onward (length s) at p _ _ a (omega arith) (omega arith) (omega arith)
+
+begun-onward : (s : List ℕ) (at p : ℕ) → at ≤ p → p < length s → Onward (length s) at (begun s p)
+unfolding begun
+begun-onward s at p a h =
+    pick-of (Onward (length s) at) _ _ _ (word-onward s at p a h)
+    (λ t. pick-of (Onward (length s) at) _ _ _ (mark-onward (length s) at p (getD s p 0) a h)
+    (λ t. pick-of (Onward (length s) at) _ _ _ (dots-onward s at p (getD s p 0) a) (λ t. (a, h))))
+
+end-onward : (len at : ℕ) → Onward len at (Mark 0 len len)
+end-onward len at = let w = wide {k = 0} 0 refl in (omega arith, omega arith, omega arith, omega arith, λ z. refl)
 
 pub onward : (s : List ℕ) (at : ℕ) → Onward (length s) at (wordAt s at)
 unfolding wordAt
 onward s at =
     let le : at ≤ at + run isSeparator (drop at s) = omega arith in
-    pick-of (Onward (length s) at) _ _ _ (λ t. begun-onward s at _ le (ltb→lt _ _ t)) (λ t. (omega arith, omega (arith, end-width), omega arith, omega arith, λ z. refl))
+    pick-of (Onward (length s) at) _ _ _ (λ t. begun-onward s at _ le (ltb→lt _ _ t)) (λ t. end-onward (length s) at)
 
 -- what is the word at a place stands as that word does
 pub told : (s : List ℕ) (at : ℕ) {r : Word} → r ≡ wordAt s at → (r ≡ wordAt s at) × Onward (length s) at r

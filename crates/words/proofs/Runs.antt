@@ -1,19 +1,18 @@
 -- Laws of the runs of bytes and of the digits' value. Assumes nothing.
-use mathlib.Core.Path.{_≡_, refl, sym, ap, _∙_, subst}
-use mathlib.Core.Bool.{Bool, true, false, _&&_}
+use mathlib.Core.Path.{_≡_, refl}
+use mathlib.Core.Bool.{Bool, true, false}
 use mathlib.Core.List.{List, [], _∷_}
 use Prim.Native.Nat.{ℕ, zero, suc, _+_, _-_, _*_, _^_, _<_, _≤_}
 use native.Mathlib.Nat.{pow-le-pow-right}
 use native.Mathlib.Numerals.{add-one}
 use native.Mathlib.Omega.{arith}
-use lib.Dec.{T, leb, lit<}
-use lib.ListN.{length, getD, drop, take, drop-of-length-le, length-take, length-drop}
+use lib.Dec.{lit<}
+use lib.ListN.{length, getD, drop, take, drop-of-length-le, length-drop}
 use lib.Seq.{drop-cons}
-use borrow.Author.Tests.{le-leb, lt-leb}
 use Rattle.rules.specs.Text.{pick}
 use Rattle.rules.specs.Words.{isSeparator, isDigit, inWord, run, all, valueOf}
-use Rattle.rules.specs.Laws.Placed.{pick-of, run-most}
-use Rattle.words.specs.Classes.{classOf, inClasses}
+use Rattle.rules.specs.Laws.Placed.{run-most}
+use Rattle.words.specs.Classes.{inClasses}
 use Rattle.words.proofs.Classes.{settled, separator-class, word-class, digit-class}
 
 pub run-end : (p : ℕ → Bool) (s : List ℕ) (i : ℕ) → length s ≤ i → run p (drop i s) ≡ 0

@@ -1,16 +1,16 @@
 -- The cases of a word's spelling, of two dots and of what begins at a place, each from the tests that lead to it. Assumes nothing.
-use mathlib.Core.Path.{_≡_, refl, sym, ap, _∙_, subst}
-use mathlib.Core.Bool.{Bool, true, false, _&&_, _||_, and-false}
-use mathlib.Core.List.{List, [], _∷_, map}
+use mathlib.Core.Path.{_≡_, refl, sym, _∙_, subst}
+use mathlib.Core.Bool.{true, false, _&&_, and-false}
+use mathlib.Core.List.{List, map}
 use Prim.Native.Nat.{ℕ, zero, suc, _+_, _-_, _<_, _≤_}
 use native.Mathlib.Numerals.{add-one}
 use native.Mathlib.Omega.{arith}
-use lib.Dec.{T, ltb, leb, eqb, eqb→eq}
+use lib.Dec.{T, leb, eqb, eqb→eq}
 use lib.ListN.{length, getD, take, drop, length-take, length-drop, List·getD-eq-default}
 use lib.Seq.{drop-cons}
 use borrow.Author.Tests.{lt-ltb, le-ltb, le-leb, lt-leb, eq-eqb, ne-eqb}
 use Rattle.rules.specs.Text.{bytes, pick, indexOf}
-use Rattle.rules.specs.Words.{isSeparator, isDigit, isLetter, isMark, inWord, reserved, run, all, valueOf, spelled, begun, wordAt}
+use Rattle.rules.specs.Words.{isDigit, isLetter, isMark, inWord, reserved, run, all, valueOf, spelled, begun, wordAt}
 use Rattle.rules.specs.declared.Word.{Word}
 use Rattle.rules.specs.declared.Word.the-variants.{Bad, Name, Number, Mark}
 use Rattle.words.specs.Classes.{classOf, inClasses}
@@ -77,16 +77,16 @@ module _ (s : List ℕ) (p e : ℕ) (h : p < e) (g : e ≤ length s) where
   not-reserved k c l = rw (← c, le-ltb k 14 l, part-length, part-first)
 
   pub long-word : (k : ℕ) → k ≡ indexOf (take (e - p) (drop p s)) (map bytes reserved) → 14 ≤ k → 6 < e - p
-      → spelled p e (take (e - p) (drop p s)) ≡ nameOr (getD s p 0) p e
+      → {r : Word} → r ≡ nameOr (getD s p 0) p e → r ≡ spelled p e (take (e - p) (drop p s))
   unfolding pick
-  long-word k c l n = not-reserved k c l ∙ rw (lt-leb (e - p) 6 n, and-false (all isDigit (take (e - p) (drop p s))))
+  long-word k c l n i = i ∙ sym (not-reserved k c l ∙ rw (lt-leb (e - p) 6 n, and-false (all isDigit (take (e - p) (drop p s)))))
 
   pub not-digits : (k r : ℕ) → k ≡ indexOf (take (e - p) (drop p s)) (map bytes reserved) → 14 ≤ k
-      → r ≡ p + run (inClasses 2 2) (drop p s) → r < e → spelled p e (take (e - p) (drop p s)) ≡ nameOr (getD s p 0) p e
+      → r ≡ p + run (inClasses 2 2) (drop p s) → r < e → {o : Word} → o ≡ nameOr (getD s p 0) p e → o ≡ spelled p e (take (e - p) (drop p s))
   unfolding pick
-  not-digits k r c l d n =
+  not-digits k r c l d n f =
       let i : run isDigit (drop p s) < e - p = omega (arith, digits (drop p s)) in
-      not-reserved k c l ∙ rw (not-all isDigit (drop p s) (e - p) (simp length-drop (omega arith)) i)
+      f ∙ sym (not-reserved k c l ∙ rw (not-all isDigit (drop p s) (e - p) (simp length-drop (omega arith)) i))
 
   pub a-number : (k r v : ℕ) → k ≡ indexOf (take (e - p) (drop p s)) (map bytes reserved) → 14 ≤ k → e - p ≤ 6
       → r ≡ p + run (inClasses 2 2) (drop p s) → e ≤ r → v ≡ valueOf 0 (take (e - p) (drop p s)) → Number p e v ≡ spelled p e (take (e - p) (drop p s))

@@ -1,12 +1,15 @@
 -- What a reader knows of a word by its places alone. Assumes nothing.
-use Prim.Native.Nat.{ℕ, _+_, _-_, _≤_, _<_}
-use mathlib.Core.Path.{_≡_}
+use Prim.Native.Nat.{ℕ, zero, suc, _+_, _-_, _≤_, _<_}
+use native.Mathlib.Omega.{arith}
+use mathlib.Core.Path.{_≡_, refl}
+use mathlib.Core.Bool.{Bool, true, false, cond}
 use mathlib.Core.List.{List, [], _∷_}
 use lib.ListN.{getD}
-use lib.Dec.{eqb}
-use Rattle.rules.specs.Text.{pick}
+use lib.Dec.{T, leb, eqb, leb→le}
+use Rattle.rules.specs.Words.{all}
 use Rattle.rules.specs.declared.Word.{Word}
 use Rattle.rules.specs.declared.Word.the-variants.{Bad, Name, Number, Mark}
+use Rattle.rules.specs.Laws.Outcomes.{both-yes}
 
 -- the bytes of the end and of the reserved words, by their numbers
 abbrev pub widths : List ℕ
@@ -14,12 +17,36 @@ widths = 0 ∷ 5 ∷ 3 ∷ 5 ∷ 3 ∷ 8 ∷ 3 ∷ 2 ∷ 4 ∷ 4 ∷ 6 ∷ 2 ∷
 
 -- how many bytes a mark takes: `..` takes two, and any other mark one
 unfoldable pub width : ℕ → ℕ
-width k = pick (eqb k 46) 2 (getD widths k 1)
+width k = cond (eqb k 46) 2 (getD widths k 1)
 
--- The word from p to before q stands in a text of length len, at or after the place at. A place past the text has only the end
--- before it, at len: so a mark is at or after `at` less what that exceeds len.
+-- The word from p to before q stands in a text of length len, at or after the place at. Where at is past the text, the end stands
+-- before it, at len: `at - len` is by how much, and is 0 for any other place.
 abbrev pub Onward : ℕ → ℕ → Word → Type 0
 Onward len at (Bad p) = (at ≤ p) × (p < len)
 Onward len at (Name p q) = (at ≤ p) × (p < q) × (q ≤ len) × (q ≤ p + 16)
 Onward len at (Number p q v) = (at ≤ p) × (p < q) × (q ≤ len) × (q ≤ p + 6) × (v < 1000000)
 Onward len at (Mark k p q) = (at ≤ p + (at - len)) × (q ≡ p + width k) × (q ≤ len) × (k < 94) × (k ≡ 0 → p ≡ len)
+
+-- the bytes of a mark whose number is known: the right side computes
+pub wide : {k : ℕ} (n : ℕ) → k ≡ n → width k ≡ cond (eqb n 46) 2 (getD widths n 1)
+unfolding width
+wide n e = rw e
+
+some-at : (l : List ℕ) (k : ℕ) → T (all (leb 1) l) → 0 < getD l k 1
+unfolding all
+some-at [] k t = omega arith
+some-at (x ∷ l) zero t = leb→le 1 x (both-yes (leb 1 x) (all (leb 1) l) t .0)
+some-at (x ∷ l) (suc k) t = some-at l k (both-yes (leb 1 x) (all (leb 1) l) t .1)
+
+some-width : (k : ℕ) → (k ≡ 0 → ⊥) → 0 < width k
+unfolding width all
+some-width zero h = absurd (h refl)
+some-width (suc k) h = go (eqb (suc k) 46)
+  where
+    go : (c : Bool) → 0 < cond c 2 (getD widths (suc k) 1)
+    go true = omega arith
+    go false = some-at (5 ∷ 3 ∷ 5 ∷ 3 ∷ 8 ∷ 3 ∷ 2 ∷ 4 ∷ 4 ∷ 6 ∷ 2 ∷ 3 ∷ 6 ∷ 5 ∷ []) k tt
+
+-- every mark but the end takes a byte
+pub width-some : {k : ℕ} → (k ≡ 0 → ⊥) → 0 < width k
+width-some {k} h = some-width k h

@@ -1,5 +1,4 @@
 -- `words::dots` meets its contract. Assumes nothing.
-use native.Mathlib.Omega.{arith}
 use borrow.Author.Needs.{needs}
 use Rattle.words.proofs.Spelled.{dot-last, two-dots, one-dot}
 use Rattle.words.proofs.dots.Statement.{statement}

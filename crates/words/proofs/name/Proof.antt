@@ -1,5 +1,4 @@
 -- `words::name` meets its contract. Assumes nothing.
-use native.Mathlib.Omega.{arith}
 use borrow.Author.Needs.{needs}
 use Rattle.words.proofs.Spelled.{no-letter, a-name, too-long}
 use Rattle.words.proofs.name.Statement.{statement}

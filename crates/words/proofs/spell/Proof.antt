@@ -1,6 +1,4 @@
 -- `words::spell` meets its contract: at each `return` the tests that led there say which case of `spelled` holds. Assumes nothing.
-use mathlib.Core.Path.{_≡_, sym, _∙_}
-use native.Mathlib.Omega.{arith}
 use borrow.Author.Needs.{needs}
 use Rattle.words.proofs.Spelled.{a-reserved, long-word, not-digits, a-number}
 use Rattle.words.proofs.spell.Statement.{statement}
@@ -14,14 +12,12 @@ returns c =
 returns-2 : tie.Need-returns-2
 returns-2 c =
     let d = c .before .before .before .before .before in
-    c .name .ensures
-    ∙ sym (long-word (d .args .text .now) (d .args .p) (d .args .end) (d .pre .0) (d .pre .1) _ (c .before .before .before .reserved .ensures) (c .before .before .if1 .left) (c .before .if2 .taken))
+    long-word (d .args .text .now) (d .args .p) (d .args .end) (d .pre .0) (d .pre .1) _ (c .before .before .before .reserved .ensures) (c .before .before .if1 .left) (c .before .if2 .taken) (c .name .ensures)
 
 returns-3 : tie.Need-returns-3
 returns-3 c =
     let d = c .before .before .before .before .before .before .before in
-    c .name2 .ensures
-    ∙ sym (not-digits (d .args .text .now) (d .args .p) (d .args .end) (d .pre .0) (d .pre .1) _ _ (c .before .before .before .before .before .reserved .ensures) (c .before .before .before .before .if1 .left) (c .before .before .run-end .ensures) (c .before .if3 .taken))
+    not-digits (d .args .text .now) (d .args .p) (d .args .end) (d .pre .0) (d .pre .1) _ _ (c .before .before .before .before .before .reserved .ensures) (c .before .before .before .before .if1 .left) (c .before .before .run-end .ensures) (c .before .if3 .taken) (c .name2 .ensures)
 
 returns-4 : tie.Need-returns-4
 returns-4 c =

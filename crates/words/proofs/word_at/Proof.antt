@@ -1,8 +1,7 @@
 -- `words::word_at` meets its contract: at each `return` the tests that led there say which case of `wordAt` holds, and where its word
 -- stands follows from that. Assumes nothing.
-use mathlib.Core.Path.{_≡_, sym, _∙_}
+use mathlib.Core.Path.{_≡_, _∙_}
 use native.Mathlib.Omega.{arith}
-use lib.ListN.{getD}
 use borrow.Author.Needs.{needs}
 use Rattle.rules.specs.Words.{begun, wordAt}
 use Rattle.words.specs.Classes.{inClasses}
