@@ -1,11 +1,12 @@
 -- What a reader leaves on the tape, and its laws. Assumes nothing.
 use mathlib.Core.Path.{_≡_, refl, sym, ap, _∙_}
-use mathlib.Core.List.{List, [], _∷_, _++_}
+use mathlib.Core.List.{List, [], _∷_, _++_, append-assoc}
 use Prim.Native.Nat.{ℕ, zero, suc, _+_, _-_, _*_, _<_, _≤_}
 use native.Mathlib.Nat.{add-zero}
+use native.Mathlib.Numerals.{add-one}
 use native.Mathlib.Omega.{arith}
-use lib.ListN.{length, set, length-append, length-set}
-use lib.Seq.{set-comm}
+use lib.ListN.{length, set, take, drop, length-append, length-set, take-append-drop}
+use lib.Seq.{set-comm, take-suc-set, drop-set-lt}
 use Rattle.rules.specs.Outcome.{Out, ok, refuse}
 use Rattle.tape.specs.declared.Read.{Read}
 use Rattle.tape.specs.declared.Read.the-variants.{Done, No}
@@ -78,3 +79,15 @@ as-words e f = rw (← e) f
 -- no size
 abbrev pub none : {A : Type 0} → A → ℕ
 none a = 0
+
+-- ---- what stands where, if there is room
+
+pub put-is : (ws t : List ℕ) (to : ℕ) → to + length ws ≤ length t → put t to ws ≡ take to t ++ (ws ++ drop (to + length ws) t)
+unfolding put
+put-is [] t to h = rw add-zero (sym (take-append-drop to t))
+put-is (w ∷ ws) t to h =
+    let e : to + 1 + length ws ≡ to + suc (length ws) = omega arith in
+    let l : to + 1 + length ws ≤ length (set t to w) = simp length-set (omega arith) in
+    let i : to < length t = omega arith in
+    let j : to < to + suc (length ws) = omega arith in
+    put-is ws (set t to w) (to + 1) l ∙ rw (e, add-one, take-suc-set t to w i, drop-set-lt (to + suc (length ws)) t to w j, append-assoc)

@@ -1,7 +1,7 @@
 // The tape: a program as words in the lent work table. The encoding stands in specs/Encoding, the layout of a word in specs/Layout.
 ghost use mathlib.Core.Path.{_≡_};
 ghost use Prim.Native.Nat.{_+_, _*_, _-_, _<_, _≤_};
-ghost use lib.ListN.{length, set};
+ghost use lib.ListN.{length, set, replicate};
 ghost use Rattle.tape.specs.Layout.{pack, kindOf, headIn, valueOf, spelt};
 
 // What a reader answers: where the thing ends in the text, where its words end on the tape, and how many names its block has then (0
@@ -76,4 +76,15 @@ pub fn store_name(tape: &mut [u32], to: usize, kind: u32, head: u32, p: usize, q
     ensures { λ r. ⌜ now (tape .exit) ≡ set (now (tape .entry)) to (pack kind head (spelt p q)) ⌝ }
 {
     store(tape, to, kind, head, p * 32 + (q - p));
+}
+
+// All zeros, as the table is handed back.
+pub fn clear(tape: &mut [u32])
+    ensures { λ _. ⌜ now (tape .exit) ≡ replicate (length (now (tape .entry))) 0 ⌝ }
+{
+    let mut i = 0;
+    while i < tape.len() {
+        tape[i] = 0;
+        i += 1;
+    }
 }

@@ -1,0 +1,4 @@
+pub mod Titles
+pub mod Rows
+pub mod Parts
+pub mod Promise

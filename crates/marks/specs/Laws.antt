@@ -1,0 +1,3 @@
+pub mod One
+pub mod Chains
+pub mod Lists
