@@ -1,7 +1,10 @@
 -- One word of the tape for two bytes of text: what readers spend, and the room that they want. Assumes nothing.
 use Prim.Native.Nat.{ℕ, _+_, _*_, _≤_, _<_}
-use mathlib.Core.List.{List, [], _∷_}
+use mathlib.Core.Bool.{cond}
+use mathlib.Core.List.{List}
 use lib.ListN.{length, getD}
+use lib.Dec.{eqb}
+use Rattle.words.specs.Onward.{widths}
 use Rattle.tape.specs.declared.Read.{Read}
 use Rattle.tape.specs.declared.Read.the-variants.{Done, No}
 use Rattle.marks.specs.declared.Divided.{Divided}
@@ -16,9 +19,9 @@ abbrev pub Spends : ℕ → ℕ → ℕ → ℕ → ℕ → Read → Type 0
 Spends extra spare len at to (Done n m c) = (at ≤ n) × (n ≤ len) × (to ≤ m) × (2 * m + at + spare ≤ 2 * to + n + extra)
 Spends extra spare len at to (No k p) = Unit {0}
 
--- the least number of bytes of a mark or reserved word
+-- the bytes of a mark or reserved word
 abbrev pub wide : ℕ → ℕ
-wide code = getD (0 ∷ 5 ∷ 3 ∷ 5 ∷ 3 ∷ 8 ∷ 3 ∷ 2 ∷ 4 ∷ 4 ∷ 6 ∷ 2 ∷ 3 ∷ 6 ∷ 5 ∷ []) code 1
+wide code = cond (eqb code 46) 2 (getD widths code 1)
 
 -- a mark was passed
 abbrev pub Past : ℕ → ℕ → ℕ → Read → Type 0

@@ -6,8 +6,7 @@ use native.Mathlib.Omega.{arith}
 use mathlib.Core.Bool.{Bool, true, false}
 use mathlib.Core.List.{List, [], _∷_}
 use lib.ListN.{length, take, drop, length-take, length-drop}
-use lib.Dec.{T, eqb, eqb→eq}
-use Rattle.rules.specs.Laws.Placed.{pick-of}
+use lib.Dec.{eqb}
 use Rattle.rules.specs.declared.Word.{Word}
 use Rattle.rules.specs.declared.Word.the-variants.{Bad, Name as Named, Number, Mark}
 use Rattle.rules.specs.Text.{pick}
@@ -16,7 +15,7 @@ use Rattle.rules.specs.Words.{wordAt, key}
 use Rattle.rules.specs.Syntax.{Name}
 use Rattle.rules.specs.Readers.{Reader, _>>=_, give, refused, marked, spelling, named, isNext, after, mark, aName, ifNext}
 use Rattle.tape.specs.Layout.{spelt, nameW}
-use Rattle.words.specs.Onward.{widths, width, Onward}
+use Rattle.words.specs.Onward.{Onward, wide as bytes-of}
 use Rattle.marks.specs.Marks.{markAt, isCode}
 use Rattle.marks.specs.Room.{wide}
 
@@ -57,11 +56,6 @@ pub spelt-is : (s : List ℕ) (p q : ℕ) → q ≤ length s → spelt p q ≡ n
 unfolding nameW
 spelt-is s p q h = rw (length-take, length-drop) (omega arith)
 
--- only the dots are wider than their number says
-wide-most : (k : ℕ) → wide k ≤ width k
-unfolding width
-wide-most k = pick-of (λ n. wide k ≤ n) (eqb k 46) 2 (wide k) (λ t. rw (eqb→eq k 46 t) (omega arith)) (λ t. omega arith)
-
--- a mark that was passed has at least its bytes
+-- a mark that was passed has its bytes
 pub past : (code b p q len at : ℕ) → b ≡ code → at ≤ len → Onward len at (Mark b p q) → (at ≤ p) × (p + wide code ≤ q) × (q ≤ len)
-past code b p q len at e h o = let w : wide code ≤ width b = rw (← e) (wide-most b) in omega arith
+past code b p q len at e h o = omega (arith, bytes-of code e)
