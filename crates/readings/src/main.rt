@@ -1,5 +1,6 @@
 // The answer of reading each text of a stream: a line with its length, then its bytes, again and again.
-use libc::{STDIN_FILENO, STDOUT_FILENO};
+use libc::STDIN_FILENO;
+use libc::STDOUT_FILENO;
 use tape::Read;
 
 // The answer to reading a line where the input has ended, and where there is no whole line.
@@ -106,10 +107,9 @@ fn show(text: &[u8], count: usize) {
     let table: &mut [u32] = &mut space;
     let r = grammar::read_program(&text[..count], table);
     match r {
-        Read::Done(_, words, blocks) => {
+        Read::Done(_, _, blocks) => {
             say(b"read");
             say_number(blocks);
-            say_number(words);
         }
         Read::No(number, place) => {
             say(b"refused");
