@@ -1,3 +1,4 @@
 pub mod Numbers
 pub mod Factors
 pub mod Here
+pub mod Taking
