@@ -5,16 +5,18 @@ use mathlib.Core.Bool.{Bool, true, false, cond}
 use Prim.Native.Nat.{ℕ, zero, suc, _+_, _-_, _*_, _^_, _<_, _≤_}
 use native.Mathlib.Nat.{mul-le-mul}
 use native.Mathlib.Omega.{arith}
-use lib.Dec.{ltb}
-use lib.IntN.{ℤ, pos, negsuc, negℤ, _+ℤ_, _-ℤ_, _*ℤ_}
-use lib.Signed.{mag, ltZ}
+use lib.Dec.{T, ltb}
+use lib.IntN.{ℤ, pos, negsuc, natAbs, negℤ, _+ℤ_, _-ℤ_, _*ℤ_}
+use lib.Signed.{mag, ltZ, nonNeg}
 use mir.Syntax.{Width, w32, w64}
-use mir.Val.{SFits, toZ, ofZ}
+use mir.Val.{SFits, Fits, toZ, ofZ}
 use mir.Facts.{toZ-ofZ, sfits-widen}
 use borrow.Author.Tests.{ltb-true, ltb-false, lt-leb, le-leb}
 use Rattle.rules.specs.Text.{pick}
 use Rattle.values.specs.declared.Number.the-variants.{Is, Beyond}
 use Rattle.values.specs.Numbers.{clipped}
+use Rattle.values.specs.declared.Apart.the-variants.{By, Not}
+use Rattle.values.specs.Sizes.{apartOf}
 
 -- a number in range fits 32 bits
 in-range : (z : ℤ) → ltZ z (negsuc 999999) ≡ false → ltZ (pos 1000000) z ≡ false → mag z < 2 ^ 31
@@ -93,3 +95,18 @@ narrow f h k g = rw (wide h, wide k) (toZ-ofZ g)
 
 pub widened : {x : ℤ} → SFits w32 x → SFits w64 (toZ w32 (ofZ w32 x))
 widened h = rw (toZ-ofZ h) (sfits-widen tt h)
+
+-- how far up, by the sign
+pub down : (d : ℤ) → ltZ d (pos 0) ≡ true → Not ≡ apartOf d
+unfolding apartOf
+down (pos n) h = absurd (omega (arith, ltb-true n 0 h))
+down (negsuc n) h = refl
+
+pub up : (d : ℤ) → ltZ d (pos 0) ≡ false → By (natAbs d) ≡ apartOf d
+unfolding apartOf
+up (pos n) h = refl
+up (negsuc n) h = let z : _≡_ {A = ℕ} 0 1 = cc in absurd (omega arith)
+
+pub up-fits : (d : ℤ) → ltZ d (pos 0) ≡ false → SFits w64 d → T (nonNeg d) × Fits w64 (natAbs d)
+up-fits (pos n) h f = (tt, record { fits = omega (arith, f .sfits) })
+up-fits (negsuc n) h f = let z : _≡_ {A = ℕ} 0 1 = cc in absurd (omega arith)

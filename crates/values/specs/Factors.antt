@@ -76,7 +76,7 @@ grouped Q len l (neg e) p = grouped Q len 0 e p
 grouped Q len l (group e) p = grouped Q len 2 e p
 grouped Q len l (both op d e) p = (p .0, grouped Q len _ d (p .1), grouped Q len _ e (p .2))
 
-flip-half : (h : ℕ) → flip h / 2 ≡ h / 2
+pub flip-half : (h : ℕ) → flip h / 2 ≡ h / 2
 unfolding flip pick
 flip-half h = go (eqb (h % 2) 0) refl
   where

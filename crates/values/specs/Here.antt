@@ -24,7 +24,7 @@ use Rattle.values.specs.declared.Value.{Value}
 use Rattle.values.specs.declared.Value.the-variants.{At, Outside}
 use Rattle.values.specs.declared.Sum.{Sum}
 use Rattle.values.specs.Numbers.{clipped, outcome, value, value-is}
-use Rattle.values.specs.Factors.{Factor, factors, step, steps, total, nothing, Grouped, steps-value}
+use Rattle.values.specs.Factors.{Factor, factors, step, steps, total, nothing, Grouped, steps-value, flip-half}
 
 -- ---- an expression on the tape
 
@@ -150,22 +150,23 @@ later-join h (group e) k = (k, tt)
 later-join h (both o d e) k = all-append Joins (factors h d) (factors (headOf o) e) (later-join h d k) (later-join (headOf o) e (head-above o))
 
 -- a first factor, and others that go on with it
-pub record Row (fs : List Factor) : Type 0 where
+pub record Row (h : ℕ) (fs : List Factor) : Type 0 where
   pub first : Factor
   pub others : List Factor
   pub whole : fs ≡ first ∷ others
   pub join : All Joins others
+  pub mark : first .head / 2 ≡ h / 2
 
-row-append : (a b : List Factor) → Row a → All Joins b → Row (a ++ b)
-row-append a b r j = record { first = r .first; others = r .others ++ b; whole = ap (λ l. l ++ b) (r .whole); join = all-append Joins (r .others) b (r .join) j }
+row-append : (h : ℕ) (a b : List Factor) → Row h a → All Joins b → Row h (a ++ b)
+row-append h a b r j = record { first = r .first; others = r .others ++ b; whole = ap (λ l. l ++ b) (r .whole); join = all-append Joins (r .others) b (r .join) j; mark = r .mark }
 
-pub row : (h : ℕ) (e : Exp ℕ) → Row (factors h e)
+pub row : (h : ℕ) (e : Exp ℕ) → Row h (factors h e)
 unfolding factors All
-row h (number v) = record { first = record { head = h; base = number v }; others = []; whole = refl; join = tt }
-row h (name n) = record { first = record { head = h; base = name n }; others = []; whole = refl; join = tt }
-row h (neg e) = row (flip h) e
-row h (group e) = record { first = record { head = h; base = group e }; others = []; whole = refl; join = tt }
-row h (both o d e) = row-append (factors h d) (factors (headOf o) e) (row h d) (later-join (headOf o) e (head-above o))
+row h (number v) = record { first = record { head = h; base = number v }; others = []; whole = refl; join = tt; mark = refl }
+row h (name n) = record { first = record { head = h; base = name n }; others = []; whole = refl; join = tt; mark = refl }
+row h (neg e) = let r = row (flip h) e in record { first = r .first; others = r .others; whole = r .whole; join = r .join; mark = r .mark ∙ flip-half h }
+row h (group e) = record { first = record { head = h; base = group e }; others = []; whole = refl; join = tt; mark = refl }
+row h (both o d e) = row-append h (factors h d) (factors (headOf o) e) (row h d) (later-join (headOf o) e (head-above o))
 
 -- ---- numbers and values
 

@@ -2,3 +2,4 @@ pub mod Numbers
 pub mod Factors
 pub mod Here
 pub mod Taking
+pub mod Sizes

@@ -51,7 +51,7 @@ leads-word k h v lk lh lv w a = record {
   after = rw (w, kind-of k h v lh lv, value-of k h v lh lv) a;
 }
 
-leads : (t : List ℕ) (i h : ℕ) (e : Exp ℕ) → h < 8 → Plain e → length (expW slotW h e) ≤ 33554432 → Lies t i (expW slotW h e) → Leads t i h e
+pub leads : (t : List ℕ) (i h : ℕ) (e : Exp ℕ) → h < 8 → Plain e → length (expW slotW h e) ≤ 33554432 → Lies t i (expW slotW h e) → Leads t i h e
 unfolding Plain expW pick
 leads t i h (number v) lh p s l = leads-word {e = number v} 0 h v (omega arith) lh (omega arith) (lies-first l) refl
 leads t i h (name n) lh p s l = leads-word {e = name n} 1 h n (omega arith) lh (omega arith) (lies-first l) refl

@@ -3,15 +3,17 @@
 ghost use mathlib.Core.Path.{_≡_};
 ghost use Prim.Native.Nat.{ℕ, _+_, _*_, _-_, _<_, _≤_};
 ghost use lib.ListN.{length, getD};
-ghost use Rattle.rules.specs.Syntax.{Exp};
-ghost use Rattle.rules.specs.Values.{eval, generics};
+ghost use lib.IntN.{_-ℤ_};
+ghost use Rattle.rules.specs.Syntax.{Exp, Sort};
+ghost use Rattle.rules.specs.Values.{eval, generics, shape};
 ghost use Rattle.tape.specs.Layout.{kindOf, headIn, valueOf};
-ghost use Rattle.tape.specs.Encoding.{expW};
+ghost use Rattle.tape.specs.Encoding.{expW, sortW};
 ghost use Rattle.tape.specs.Resolved.{slotW};
 ghost use Rattle.values.specs.Numbers.{clipped, negation, joined, value};
 ghost use Rattle.values.specs.Factors.{Factor, total, signed, step, nothing};
 ghost use Rattle.values.specs.Here.{goesOn, Here, Written, Says, HereFactor, WrittenFactor, numberIn, valueAt};
 ghost use Rattle.values.specs.Taking.{afterOf, plainOf};
+ghost use Rattle.values.specs.Sizes.{HereSort, WrittenSort, Sizes, sizeOf, apartOf};
 use tape::Kind;
 
 // A number from -1,000,000 to 1,000,000, or none where a part of an expression lies beyond.
@@ -33,7 +35,21 @@ pub enum Value {
     Outside,
 }
 
+// What a type comes to: its lowest index, how many wires it has, and the place after its words; or the number of a refusal.
+pub enum Size {
+    Wires(i32, usize, usize),
+    Wrong(usize),
+}
+
+// How far one number lies above another.
+pub enum Apart {
+    By(usize),
+    Not,
+}
+
 const TIMES: u32 = 3;
+
+const MOST: usize = 256;
 
 const LIMIT: i64 = 1000000;
 
@@ -228,4 +244,52 @@ pub fn eval(tape: &[u32], values: &[i32; 48], at: usize, end: usize) -> Value
             return answer(sum, i);
         }
     }
+}
+
+// How far x lies above y, if it does not lie below.
+pub fn above(x: i32, y: i32) -> Apart
+    ensures { λ r. ⌜ r ≡ apartOf (x -ℤ y) ⌝ }
+{
+    let more = x as i64 - y as i64;
+    if more < 0 {
+        return Apart::Not;
+    }
+    Apart::By(more as usize)
+}
+
+// The size of a vector from its bounds; its words end at next.
+fn sized(x: i32, y: i32, next: usize) -> Size
+    ensures { λ r. ⌜ Sizes (sizeOf x y) next r ⌝ }
+{
+    let more = above(x, y);
+    let Apart::By(k) = more else {
+        return Size::Wrong(11);
+    };
+    if k >= MOST {
+        return Size::Wrong(11);
+    }
+    Size::Wires(y, k + 1, next)
+}
+
+// The size of the type of the declaration at `at`: first bound, second bound, 11.
+pub fn measure(tape: &[u32], values: &[i32; 48], at: usize, end: usize) -> Size
+    requires { ⌜ WrittenSort (now tape) at end ⌝ }
+    ensures { λ r. ⌜ ((k v : ℕ) (s : Sort ℕ) → HereSort (now (tape .entry)) at end k v s → Sizes (shape (generics (now (values .entry))) s) (at + length (sortW slotW k v s)) r) ⌝ }
+{
+    let head = tape::head_of(tape[at]);
+    if head == 0 {
+        return Size::Wires(0, 1, at + 1);
+    }
+    if head == 2 {
+        return Size::Wires(0, 0, at + 1);
+    }
+    let first = eval(tape, values, at + 1, end);
+    let Value::At(x, second) = first else {
+        return Size::Wrong(10);
+    };
+    let last = eval(tape, values, second, end);
+    let Value::At(y, next) = last else {
+        return Size::Wrong(10);
+    };
+    sized(x, y, next)
 }
