@@ -2,3 +2,5 @@ pub mod Laid
 pub mod Rows
 pub mod Stands
 pub mod Args
+pub mod Runs
+pub mod Lists

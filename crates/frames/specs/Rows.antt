@@ -50,7 +50,7 @@ module _ {A : Type 0} where
   Starts t end lo hi w Item = (x : A) (i : ℕ) → Item x → Lies t i (w x) → i + length (w x) < 33554432 → Starting t i end lo hi × (0 < length (w x))
 
   module _ {t : List ℕ} {end lo hi : ℕ} {w : A → List ℕ} {Item : A → Type 0} (starts : Starts t end lo hi w Item) where
-    starting : {i : ℕ} {x : A} {xs : List A} → Listed t i end lo hi w (x ∷ xs) → Item x → Starting t i end lo hi × (0 < length (w x))
+    pub starting : {i : ℕ} {x : A} {xs : List A} → Listed t i end lo hi w (x ∷ xs) → Item x → Starting t i end lo hi × (0 < length (w x))
     unfolding listW
     starting {i} {x} {xs} l p = starts x i p (lies-left (w x) (listW w xs) (l .lies)) (omega (arith, l .within, l .short, length-append (w x) (listW w xs)))
 

@@ -4,14 +4,17 @@ ghost use Prim.Native.Nat.{ℕ, _+_, _*_, _-_, _<_, _≤_};
 ghost use mathlib.Core.List.{List};
 ghost use lib.ListN.{length, getD, set};
 ghost use Rattle.rules.specs.Syntax.{Exp, Arg};
-ghost use Rattle.rules.specs.Values.{Env};
+ghost use Rattle.rules.specs.Values.{Env, evals};
 ghost use Rattle.rules.specs.Frames.{Frame as Names, resolve};
 ghost use Rattle.rules.specs.Unfold.{Range, Wires};
 ghost use Rattle.tape.specs.Layout.{kindOf, headIn, valueOf};
-ghost use Rattle.tape.specs.Encoding.{argW};
+ghost use Rattle.tape.specs.Encoding.{argW, listW};
 ghost use Rattle.tape.specs.Resolved.{slotW};
-ghost use Rattle.frames.specs.Stands.{Stands};
+ghost use Rattle.frames.specs.Stands.{Stands, Knows};
+ghost use Rattle.frames.specs.Rows.{amongOf};
+ghost use Rattle.frames.specs.Lists.{valueW, HereValues, WrittenValues, Gathers};
 ghost use Rattle.frames.specs.Args.{HereArg, WrittenArg, Finds, Fits};
+use tape::Kind;
 use values::Apart;
 use values::Value;
 
@@ -26,6 +29,12 @@ pub struct Frame {
 // The wires of an argument, lowest first, how many they are, and the place after its words; or the number of a refusal.
 pub enum Found {
     At(usize, usize, usize),
+    Wrong(usize),
+}
+
+// How many places are filled, and the place after the words of all that was read; or the number of a refusal.
+pub enum Many {
+    Done(usize, usize),
     Wrong(usize),
 }
 
@@ -62,4 +71,56 @@ pub fn argument(tape: &[u32], f: Frame, at: usize, end: usize) -> Found
         return Found::Wrong(12);
     }
     Found::At(base + i, 1, next)
+}
+
+// Whether the word at i, before `end`, has a kind from lo to hi.
+fn among(tape: &[u32], i: usize, end: usize, lo: u32, hi: u32) -> bool
+    requires { ⌜ end ≤ length (now tape) ⌝ }
+    ensures { λ r. ⌜ r ≡ amongOf (now (tape .entry)) i end lo hi ⌝ }
+{
+    if i >= end {
+        return false;
+    }
+    let kind = tape::kind_of(tape[i]);
+    if kind < lo {
+        return false;
+    }
+    kind <= hi
+}
+
+// A resolved call never gives more than there are places; what would lie past them is not kept.
+fn keep_value(into: &mut [i32; 48], k: usize, v: i32)
+    requires { ⌜ length (now into) ≡ 48 ⌝ }
+    ensures { λ _. ⌜ now (into .exit) ≡ set (now (into .entry)) k v ⌝ }
+{
+    if k < 48 {
+        into[k] = v;
+    }
+}
+
+// The values of the generics given from `at` on.
+pub fn evaluate(
+    tape: &[u32],
+    values: &[i32; 48],
+    at: usize,
+    end: usize,
+    into: &mut [i32; 48],
+) -> Many
+    requires { ⌜ WrittenValues (now tape) at end ⌝ }
+    requires { ⌜ length (now into) ≡ 48 ⌝ }
+    ensures { λ r. ⌜ ((ρ : Env) (es : List (Exp ℕ)) → Knows (now (values .entry)) ρ → HereValues (now (tape .entry)) at end es
+        → Gathers (λ v. v) (evals ρ es) (at + length (listW valueW es)) 0 (now (into .entry)) r (now (into .exit))) ⌝ }
+{
+    let mut i = at;
+    let mut k: usize = 0;
+    while among(tape, i, end, Kind::NUMBER, Kind::BRACKET) {
+        let v = values::eval(tape, values, i, end);
+        let Value::At(x, next) = v else {
+            return Many::Wrong(10);
+        };
+        keep_value(into, k, x);
+        k += 1;
+        i = next;
+    }
+    Many::Done(k, i)
 }

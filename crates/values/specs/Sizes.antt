@@ -24,7 +24,7 @@ use Rattle.values.specs.declared.Size.{Size}
 use Rattle.values.specs.declared.Size.the-variants.{Wires, Wrong}
 use Rattle.values.specs.Factors.{Factor, factors, Grouped}
 use Rattle.values.specs.Here.{goesOn, Here, Says, Sound, factorW, row, factors-words, factors-sound}
-use Rattle.values.specs.Taking.{leads}
+use Rattle.values.specs.Taking.{leads, plain-some}
 
 -- ---- where an expression stops
 
@@ -47,17 +47,26 @@ pub stops-kind : (t : List ℕ) (i end : ℕ) → 2 < kindOf (getD t i 0) → go
 unfolding goesOn
 stops-kind t i end h = second (ltb i end) (leb (kindOf (getD t i 0)) 2) _ (lt-leb _ _ h)
 
--- at the first word of an expression
-pub stops-first : (t : List ℕ) (i end : ℕ) (e : Exp ℕ) → Grouped 2 e → Lies t i (expW slotW 0 e) → length (expW slotW 0 e) < 33554432 → goesOn t i end ≡ false
-unfolding goesOn All listW
-stops-first t i end e g l s =
+-- the first word of an expression
+pub record Opens (t : List ℕ) (i : ℕ) (e : Exp ℕ) : Type 0 where
+  pub kind : kindOf (getD t i 0) ≤ 2
+  pub head : headIn (getD t i 0) < 2
+  pub some : 0 < length (expW slotW 0 e)
+
+pub opens : {t : List ℕ} {i : ℕ} (e : Exp ℕ) → Grouped 2 e → Lies t i (expW slotW 0 e) → length (expW slotW 0 e) < 33554432 → Opens t i e
+unfolding All listW
+opens {t} {i} e g l s =
     let r = row 0 e in
     let w : listW factorW (r .first ∷ r .others) ≡ expW slotW 0 e = ap (listW factorW) (sym (r .whole)) ∙ factors-words 0 e in
     let a : All Sound (r .first ∷ r .others) = subst (All Sound) (r .whole) (factors-sound 0 2 e (omega arith) g) in
     let n = length-append (factorW (r .first)) (listW factorW (r .others)) in
     let m : length (factorW (r .first)) ≤ 33554432 = omega (arith, n, ap length w) in
     let d = leads t i (r .first .head) (r .first .base) (a .0 .head) (a .0 .base) m (lies-left (factorW (r .first)) (listW factorW (r .others)) (subst (Lies t i) (sym w) l)) in
-    third (ltb i end) (leb (kindOf (getD t i 0)) 2) _ (lt-leb 2 (headIn (getD t i 0)) (omega (arith, d .head, r .mark)))
+    record { kind = d .kind; head = omega (arith, d .head, r .mark); some = omega (arith, n, ap length w, plain-some (r .first .head) (r .first .base) (a .0 .base)) }
+
+pub stops-first : (t : List ℕ) (i end : ℕ) (e : Exp ℕ) → Grouped 2 e → Lies t i (expW slotW 0 e) → length (expW slotW 0 e) < 33554432 → goesOn t i end ≡ false
+unfolding goesOn
+stops-first t i end e g l s = third (ltb i end) (leb (kindOf (getD t i 0)) 2) _ (lt-leb 2 (headIn (getD t i 0)) (opens e g l s .head))
 
 -- how far up, if not down
 unfoldable pub apartOf : ℤ → Apart

@@ -209,7 +209,7 @@ goes {t} {i} {next} {f} end k j h =
     let d = leads-here k in
     rw (lt-ltb i end h, le-leb (kindOf (getD t i 0)) 2 (d .kind), le-leb 2 (headIn (getD t i 0)) (omega (arith, d .head)))
 
-plain-some : (h : ℕ) (e : Exp ℕ) → Plain e → 0 < length (expW slotW h e)
+pub plain-some : (h : ℕ) (e : Exp ℕ) → Plain e → 0 < length (expW slotW h e)
 unfolding Plain expW
 plain-some h (number v) p = omega arith
 plain-some h (name v) p = omega arith
