@@ -1,18 +1,18 @@
 // What the names of one use of a block stand for: wires, and values.
 ghost use mathlib.Core.Path.{_≡_};
 ghost use Prim.Native.Nat.{ℕ, _+_, _*_, _-_, _<_, _≤_};
-ghost use mathlib.Core.List.{List};
+ghost use mathlib.Core.List.{List, _++_};
 ghost use lib.ListN.{length, getD, set};
 ghost use Rattle.rules.specs.Syntax.{Exp, Arg};
 ghost use Rattle.rules.specs.Values.{Env, evals};
-ghost use Rattle.rules.specs.Frames.{Frame as Names, resolve};
+ghost use Rattle.rules.specs.Frames.{Frame as Names, resolve, resolves};
 ghost use Rattle.rules.specs.Unfold.{Range, Wires};
 ghost use Rattle.tape.specs.Layout.{kindOf, headIn, valueOf};
 ghost use Rattle.tape.specs.Encoding.{argW, listW};
 ghost use Rattle.tape.specs.Resolved.{slotW};
 ghost use Rattle.frames.specs.Stands.{Stands, Knows};
 ghost use Rattle.frames.specs.Rows.{amongOf};
-ghost use Rattle.frames.specs.Lists.{valueW, HereValues, WrittenValues, Gathers};
+ghost use Rattle.frames.specs.Lists.{valueW, HereValues, WrittenValues, Gathers, taggedW, tagged, HereArgs, WrittenArgs, Resolves};
 ghost use Rattle.frames.specs.Args.{HereArg, WrittenArg, Finds, Fits};
 use tape::Kind;
 use values::Apart;
@@ -121,6 +121,49 @@ pub fn evaluate(
         keep_value(into, k, x);
         k += 1;
         i = next;
+    }
+    Many::Done(k, i)
+}
+
+fn keep_wire(into: &mut [u16; 48], k: usize, v: usize)
+    requires { ⌜ (length (now into) ≡ 48) × (v < 65536) ⌝ }
+    ensures { λ _. ⌜ now (into .exit) ≡ set (now (into .entry)) k v ⌝ }
+{
+    if k < 48 {
+        into[k] = v as u16;
+    }
+}
+
+// The wires of the arguments from `at` on, inputs and then outputs, stored from place `to` on.
+pub fn arguments(
+    tape: &[u32],
+    f: Frame,
+    at: usize,
+    end: usize,
+    to: usize,
+    base: &mut [u16; 48],
+    len: &mut [u16; 48],
+) -> Many
+    requires { ⌜ WrittenArgs (now tape) at end f ⌝ }
+    requires { ⌜ (length (now base) ≡ 48) × (length (now len) ≡ 48) × (to ≤ 48) ⌝ }
+    ensures { λ r. ⌜ ((ρ : Env) (σ : Names Range) (ins outs : List (Arg ℕ)) → Stands f ρ σ → HereArgs (now (tape .entry)) at end (length σ) ins outs
+        → Resolves (resolves Wires ρ σ (ins ++ outs)) (at + length (listW taggedW (tagged ins outs))) to (now (base .entry)) (now (len .entry)) r (now (base .exit)) (now (len .exit))) ⌝ }
+{
+    let mut i = at;
+    let mut k = to;
+    while among(tape, i, end, Kind::INPUT, Kind::OUTPUT) {
+        let found = argument(tape, f, i, end);
+        match found {
+            Found::Wrong(n) => {
+                return Many::Wrong(n);
+            }
+            Found::At(b, l, next) => {
+                keep_wire(base, k, b);
+                keep_wire(len, k, l);
+                k += 1;
+                i = next;
+            }
+        }
     }
     Many::Done(k, i)
 }
