@@ -37,7 +37,7 @@ module _ {A : Type 0} where
   laid-after [] t to k d h = refl
   laid-after (x ∷ xs) t to k d h = laid-after xs (set t to x) (to + 1) k d (omega arith) ∙ getD-set-other t to k x d (λ e. omega (arith, e))
 
-  laid-at : (xs t : List A) (to j : ℕ) (d : A) → to + j < length t → j < length xs → getD (laid t to xs) (to + j) d ≡ getD xs j d
+  pub laid-at : (xs t : List A) (to j : ℕ) (d : A) → to + j < length t → j < length xs → getD (laid t to xs) (to + j) d ≡ getD xs j d
   unfolding laid
   laid-at [] t to j d r h = absurd (omega arith)
   laid-at (x ∷ xs) t to zero d r h = let e : to + 0 ≡ to = omega arith in rw e (laid-before xs (set t to x) (to + 1) to d (omega arith) ∙ getD-set-same t to x d (omega arith))

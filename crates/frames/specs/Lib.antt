@@ -4,3 +4,4 @@ pub mod Stands
 pub mod Args
 pub mod Runs
 pub mod Lists
+pub mod Ports

@@ -162,10 +162,10 @@ unfoldable pub Resolves : Out (List Range) → ℕ → ℕ → List ℕ → List
 Resolves o n to b₀ l₀ (Done k m) b l = (rs : List Range) × (o ≡ ok rs) × Draws rs n to k m b₀ l₀ b l
 Resolves o n to b₀ l₀ (Wrong k) b l = o ≡ refuse k 0
 
-abbrev baseR : Range → ℕ
+abbrev pub baseR : Range → ℕ
 baseR r = r .base
 
-abbrev lenR : Range → ℕ
+abbrev pub lenR : Range → ℕ
 lenR r = r .len
 
 -- the loop over arguments: k is the next place to fill

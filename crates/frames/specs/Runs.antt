@@ -39,6 +39,7 @@ pub record Going {A B : Type 0} (f : A → Out B) (w : A → List ℕ) (Item : A
   pub listed : Listed t i end lo hi w left
   pub ends : i + length (listW w left) ≡ at + length (listW w xs)
   pub count : k ≡ length found
+  pub total : length found + length left ≡ length xs
   pub from : at + k ≤ i
 
 -- the thing at i
@@ -53,7 +54,7 @@ pub record Next {A : Type 0} (w : A → List ℕ) (Item : A → Type 0) (t : Lis
 
 pub begin : {A B : Type 0} {f : A → Out B} {w : A → List ℕ} {Item : A → Type 0} {t : List ℕ} {at end lo hi : ℕ} {xs : List A} → Listed t at end lo hi w xs → All Item xs
     → Going f w Item t at end lo hi xs at 0 []
-begin {f = f} {xs = xs} l p = record { left = xs; same = sym (after-none (runs f xs)); sound = p; listed = l; ends = refl; count = refl; from = omega arith }
+begin {f = f} {xs = xs} l p = record { left = xs; same = sym (after-none (runs f xs)); sound = p; listed = l; ends = refl; count = refl; total = omega arith; from = omega arith }
 
 module _ {A B : Type 0} {f : A → Out B} {w : A → List ℕ} {Item : A → Type 0} {t : List ℕ} {end lo hi : ℕ} (starts : Starts t end lo hi w Item) {at : ℕ} {xs : List A} {i k : ℕ} {found : List B}
     (g : Going f w Item t at end lo hi xs i k found) where
@@ -91,6 +92,7 @@ module _ {A B : Type 0} {f : A → Out B} {w : A → List ℕ} {Item : A → Typ
         listed = rest starts l;
         ends = omega (arith, subst (λ l. i + length (listW w l) ≡ at + length (listW w xs)) (n .is) (g .ends), length-append (w (n .item)) (listW w (n .tail)));
         count = omega (arith, g .count, length-append found (b ∷ []));
+        total = omega (arith, g .total, ap length (n .is), length-append found (b ∷ []));
         from = omega (arith, g .from, n .some);
       }
 

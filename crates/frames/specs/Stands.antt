@@ -69,6 +69,7 @@ Inside (x ∷ σ) = (baseOf x + lenOf x ≤ 1536) × Inside σ
 
 pub record Stands (f : Frame) (ρ : Env) (σ : Names Range) : Type 0 where
   pub value : Knows (f .value) ρ
+  pub full : length (f .value) ≡ 48
   pub base : f .base ≡ column 48 0 (map baseOf σ)
   pub len : f .len ≡ column 48 0 (map lenOf σ)
   pub low : f .low ≡ column 48 (pos 0) (map lowOf σ)
