@@ -122,9 +122,80 @@ pub record WrittenPorts (t : List ℕ) (at end to : ℕ) (l : List ℕ) : Type 0
 
 -- ---- the loop over ports: k is the next place to fill
 
-pub record Tying (ρ : Env) (t : List ℕ) (at end to : ℕ) (xs : List Port) (o₀ : List ℤ) (i k : ℕ) (o : List ℤ) : Type 0 where
+pub record Tying (ρ : Env) (t : List ℕ) (at end to : ℕ) (xs : List Port) (l : List ℕ) (o₀ : List ℤ) (i k : ℕ) (o : List ℤ) : Type 0 where
   pub found : Names Range
   pub many : ℕ
   pub going : Going (tieOne ρ) portW Tied t at end 11 12 xs i many found
   pub count : k ≡ to + many
   pub low : o ≡ laid o₀ to (map lowOf found)
+  pub offered : Offered k l (going .left)
+
+offered-rest : {k : ℕ} {l : List ℕ} {x : Port} {xs : List Port} → Offered k l (x ∷ xs) → Offered (k + 1) l xs
+offered-rest {k} {l} o = record {
+  full = o .full;
+  few = omega (arith, o .few);
+  is = λ j h. let e : k + 1 + j ≡ k + suc j = omega arith in ap (λ n. getD l n 0) e ∙ o .is (suc j) (omega arith);
+}
+
+tie-refused : (ρ : Env) (x : Port) {m : ℕ} → shape ρ (x .decl .sort) ≡ refuse m 0 → tieOne ρ x ≡ refuse m 0
+unfolding tieOne _>>=_
+tie-refused ρ x e = rw e
+
+tie-apart : (ρ : Env) (x : Port) {l : ℤ} {n : ℕ} → shape ρ (x .decl .sort) ≡ ok (record { low = l; size = n }) → (n ≡ x .given .len → ⊥) → tieOne ρ x ≡ refuse 13 0
+unfolding tieOne _>>=_ need
+tie-apart ρ x {l} {n} e h = rw (e, ne-eqb n (x .given .len) h)
+
+tie-ok : (ρ : Env) (x : Port) {l : ℤ} {n : ℕ} → shape ρ (x .decl .sort) ≡ ok (record { low = l; size = n }) → n ≡ x .given .len → tieOne ρ x ≡ ok (record { low = l; cells = x .given })
+unfolding tieOne _>>=_ need
+tie-ok ρ x {l} {n} e h = rw (e, eq-eqb n (x .given .len) h)
+
+abbrev pub tieAll : Env → List Port → Out (Names Range)
+tieAll ρ xs = tie Wires ρ (declsIn xs) (givenIn xs)
+
+module _ {ρ : Env} {t : List ℕ} {at end to : ℕ} {xs : List Port} {l : List ℕ} {o₀ : List ℤ} where
+  pub tying-begin : HerePorts t at end xs → Offered to l xs → Tying ρ t at end to xs l o₀ at to o₀
+  unfolding laid begin
+  tying-begin h o = record { found = []; many = 0; going = begin (h .listed) (h .tied); count = omega arith; low = refl; offered = o }
+
+  module _ {i k : ℕ} {o : List ℤ} (d : Tying ρ t at end to xs l o₀ i k o) where
+    pub tying-next : amongOf t i end 11 12 ≡ true → Next portW Tied t i end (d .going .left)
+    tying-next e = next starts-ports (d .going) e
+
+    module _ (n : Next portW Tied t i end (d .going .left)) where
+      here : Offered k l (n .item ∷ n .tail)
+      here = subst (Offered k l) (n .is) (d .offered)
+
+      pub tying-given : getD l k 0 ≡ n .item .given .len
+      tying-given = let e : k + 0 ≡ k = omega arith in subst (λ j. getD l j 0 ≡ n .item .given .len) e (here .is 0 (omega arith))
+
+      pub tying-place : k < 48
+      tying-place = omega (arith, here .few)
+
+      pub tying-refused : {m : ℕ} → shape ρ (n .item .decl .sort) ≡ refuse m 0 → tieAll ρ xs ≡ refuse m 0
+      tying-refused e = sym (runs-tie ρ xs) ∙ stop starts-ports (d .going) n (tie-refused ρ (n .item) e)
+
+      pub tying-apart : {x : ℤ} {m : ℕ} → shape ρ (n .item .decl .sort) ≡ ok (record { low = x; size = m }) → (m ≡ getD l k 0 → ⊥) → tieAll ρ xs ≡ refuse 13 0
+      tying-apart e f = sym (runs-tie ρ xs) ∙ stop starts-ports (d .going) n (tie-apart ρ (n .item) e (λ q. f (q ∙ sym tying-given)))
+
+      pub tying-on : {x : ℤ} {m z j : ℕ} {o′ : List ℤ} → shape ρ (n .item .decl .sort) ≡ ok (record { low = x; size = m }) → m ≡ getD l k 0
+          → z ≡ i + length (portW (n .item)) → o′ ≡ set o k x → j ≡ k + 1 → Tying ρ t at end to xs l o₀ z j o′
+      unfolding onward
+      tying-on {x} {m} {z} {j} e f q p c =
+          let s : Sig Range = record { low = x; cells = n .item .given } in
+          rw (q, c) (record {
+            found = d .found ++ (s ∷ []);
+            many = d .many + 1;
+            going = onward starts-ports (d .going) n (tie-ok ρ (n .item) e (f ∙ tying-given));
+            count = omega (arith, d .count);
+            low = stored lowOf o₀ to (d .found) s (d .low) (omega (arith, d .count, d .going .count)) p;
+            offered = offered-rest here;
+          })
+
+    pub tying-end : amongOf t i end 11 12 ≡ false → Gathers lowOf (tieAll ρ xs) (at + length (listW portW xs)) to o₀ (Done k i) o
+    unfolding Gathers
+    tying-end e =
+        let f = finish starts-ports (d .going) e in
+        (d .found, sym (runs-tie ρ xs) ∙ f .0, f .1, omega (arith, d .count, d .going .count), d .low)
+
+    pub tying-room : (i < 33554432) × (k ≤ to + i)
+    tying-room = (omega (arith, d .going .listed .within, d .going .listed .short), omega (arith, d .count, d .going .from))

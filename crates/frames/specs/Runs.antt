@@ -18,15 +18,15 @@ runs f (x ∷ xs) = do
   ok (b ∷ bs)
 
 -- what runs gives, with `found` before it
-abbrev after : {B : Type 0} → List B → Out (List B) → Out (List B)
+abbrev pub after : {B : Type 0} → List B → Out (List B) → Out (List B)
 after found o = o >>= λ bs. ok (found ++ bs)
 
-after-none : {B : Type 0} (o : Out (List B)) → after [] o ≡ o
+pub after-none : {B : Type 0} (o : Out (List B)) → after [] o ≡ o
 unfolding _>>=_
 after-none (ok bs) = refl
 after-none (refuse n p) = refl
 
-after-one : {B : Type 0} (found : List B) (b : B) (o : Out (List B)) → after found (o >>= λ bs. ok (b ∷ bs)) ≡ after (found ++ (b ∷ [])) o
+pub after-one : {B : Type 0} (found : List B) (b : B) (o : Out (List B)) → after found (o >>= λ bs. ok (b ∷ bs)) ≡ after (found ++ (b ∷ [])) o
 unfolding _>>=_
 after-one found b (ok bs) = ap ok (sym (append-assoc found (b ∷ []) bs))
 after-one found b (refuse n p) = refl
@@ -52,7 +52,7 @@ pub record Next {A : Type 0} (w : A → List ℕ) (Item : A → Type 0) (t : Lis
   pub some : 0 < length (w item)
   pub alone : Alone t i end (w item)
 
-pub begin : {A B : Type 0} {f : A → Out B} {w : A → List ℕ} {Item : A → Type 0} {t : List ℕ} {at end lo hi : ℕ} {xs : List A} → Listed t at end lo hi w xs → All Item xs
+unfoldable pub begin : {A B : Type 0} {f : A → Out B} {w : A → List ℕ} {Item : A → Type 0} {t : List ℕ} {at end lo hi : ℕ} {xs : List A} → Listed t at end lo hi w xs → All Item xs
     → Going f w Item t at end lo hi xs at 0 []
 begin {f = f} {xs = xs} l p = record { left = xs; same = sym (after-none (runs f xs)); sound = p; listed = l; ends = refl; count = refl; total = omega arith; from = omega arith }
 
@@ -73,7 +73,7 @@ module _ {A B : Type 0} {f : A → Out B} {w : A → List ℕ} {Item : A → Typ
         alone = alone starts (subst (Listed t i end lo hi w) (c .is) (g .listed)) (p .1);
       }
 
-  one : (n : Next w Item t i end (g .left)) → runs f xs ≡ after found (f (n .item) >>= λ b. runs f (n .tail) >>= λ bs. ok (b ∷ bs))
+  pub one : (n : Next w Item t i end (g .left)) → runs f xs ≡ after found (f (n .item) >>= λ b. runs f (n .tail) >>= λ bs. ok (b ∷ bs))
   unfolding runs
   one n = g .same ∙ ap (λ l. after found (runs f l)) (n .is)
 
@@ -81,7 +81,7 @@ module _ {A B : Type 0} {f : A → Out B} {w : A → List ℕ} {Item : A → Typ
   unfolding _>>=_
   stop n e = one n ∙ rw e
 
-  pub onward : (n : Next w Item t i end (g .left)) → {b : B} → f (n .item) ≡ ok b → Going f w Item t at end lo hi xs (i + length (w (n .item))) (k + 1) (found ++ (b ∷ []))
+  unfoldable pub onward : (n : Next w Item t i end (g .left)) → {b : B} → f (n .item) ≡ ok b → Going f w Item t at end lo hi xs (i + length (w (n .item))) (k + 1) (found ++ (b ∷ []))
   unfolding _>>=_ listW
   onward n {b} e =
       let l = subst (Listed t i end lo hi w) (n .is) (g .listed) in

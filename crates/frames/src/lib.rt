@@ -10,12 +10,14 @@ ghost use Rattle.rules.specs.Unfold.{Range, Wires};
 ghost use Rattle.tape.specs.Layout.{kindOf, headIn, valueOf};
 ghost use Rattle.tape.specs.Encoding.{argW, listW};
 ghost use Rattle.tape.specs.Resolved.{slotW};
-ghost use Rattle.frames.specs.Stands.{Stands, Knows};
+ghost use Rattle.frames.specs.Stands.{Stands, Knows, lowOf};
+ghost use Rattle.frames.specs.Ports.{Port, portW, HerePorts, WrittenPorts, Offered, tieAll};
 ghost use Rattle.frames.specs.Rows.{amongOf};
 ghost use Rattle.frames.specs.Lists.{valueW, HereValues, WrittenValues, Gathers, taggedW, tagged, HereArgs, WrittenArgs, Resolves};
 ghost use Rattle.frames.specs.Args.{HereArg, WrittenArg, Finds, Fits};
 use tape::Kind;
 use values::Apart;
+use values::Size;
 use values::Value;
 
 // Each name's lowest wire, how many it has, and the index of the lowest; the value of each generic and of each loop's index.
@@ -160,6 +162,42 @@ pub fn arguments(
             Found::At(b, l, next) => {
                 keep_wire(base, k, b);
                 keep_wire(len, k, l);
+                k += 1;
+                i = next;
+            }
+        }
+    }
+    Many::Done(k, i)
+}
+
+// The ports from `at` on, tied lowest to lowest to the wires given from place `to` on: bounds (10), 11, 13. Their lowest indices are stored.
+pub fn tie(
+    tape: &[u32],
+    values: &[i32; 48],
+    at: usize,
+    end: usize,
+    to: usize,
+    len: &[u16; 48],
+    low: &mut [i32; 48],
+) -> Many
+    requires { ⌜ WrittenPorts (now tape) at end to (now len) ⌝ }
+    requires { ⌜ length (now low) ≡ 48 ⌝ }
+    ensures { λ r. ⌜ ((ρ : Env) (xs : List Port) → Knows (now (values .entry)) ρ → HerePorts (now (tape .entry)) at end xs → Offered to (now (len .entry)) xs
+        → Gathers lowOf (tieAll ρ xs) (at + length (listW portW xs)) to (now (low .entry)) r (now (low .exit))) ⌝ }
+{
+    let mut i = at;
+    let mut k = to;
+    while among(tape, i, end, Kind::IN, Kind::OUT) {
+        let size = values::measure(tape, values, i, end);
+        match size {
+            Size::Wrong(n) => {
+                return Many::Wrong(n);
+            }
+            Size::Wires(lowest, count, next) => {
+                if wide(len[k]) != count {
+                    return Many::Wrong(13);
+                }
+                keep_value(low, k, lowest);
                 k += 1;
                 i = next;
             }
