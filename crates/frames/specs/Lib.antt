@@ -5,3 +5,4 @@ pub mod Args
 pub mod Runs
 pub mod Lists
 pub mod Ports
+pub mod Fresh

@@ -32,6 +32,7 @@ pub record Declared (kind : ℕ) (d : Decl ℕ) : Type 0 where
   pub low : 11 ≤ kind
   pub high : kind ≤ 13
   pub name : nameW (d .name) < 33554432
+  pub letters : length (d .name .letters) < 32
   pub sort : GroupedSort (d .sort)
 
 sort-kind : {t : List ℕ} {i k v : ℕ} (s : Sort ℕ) → v < 33554432 → Lies t i (sortW slotW k v s) → kindOf (getD t i 0) ≡ k

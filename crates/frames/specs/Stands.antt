@@ -5,7 +5,7 @@ use native.Mathlib.Omega.{arith}
 use native.Mathlib.Decide.{ℕ-discrete}
 use mathlib.Core.Bool.{Bool, true, false, cond}
 use mathlib.Core.List.{List, [], _∷_, _++_, map}
-use lib.ListN.{length, getD, set, replicate}
+use lib.ListN.{length, getD, set, replicate, length-set}
 use lib.Seq.{getD-set-same, getD-set-other}
 use lib.IntN.{ℤ, pos}
 use lib.Dec.{eqb}
@@ -102,3 +102,16 @@ module _ {f : Frame} {ρ : Env} {σ : Names Range} (s : Stands f ρ σ) (k : ℕ
   name-inside =
       let l : k < 48 = omega (arith, s .few) in
       rw (s .base, s .len, column-at 48 0 (map baseOf σ) k l, column-at 48 0 (map lenOf σ) k l) (inside-at σ k h (s .inside))
+
+-- a loop's index is bound
+pub stands-bound : {f : Frame} {ρ : Env} {σ : Names Range} (i : ℕ) (v : ℤ) → i < 48 → Stands f ρ σ
+    → Stands (record { base = f .base; len = f .len; low = f .low; value = set (f .value) i v }) (bound ρ i v) σ
+stands-bound {f} i v h s = record {
+  value = knows-bound i v (s .full) h (s .value);
+  full = length-set (f .value) i v ∙ s .full;
+  base = s .base;
+  len = s .len;
+  low = s .low;
+  few = s .few;
+  inside = s .inside;
+}

@@ -3,10 +3,10 @@ ghost use mathlib.Core.Path.{_≡_};
 ghost use Prim.Native.Nat.{ℕ, _+_, _*_, _-_, _<_, _≤_};
 ghost use mathlib.Core.List.{List, _++_};
 ghost use lib.ListN.{length, getD, set};
-ghost use Rattle.rules.specs.Syntax.{Exp, Arg};
-ghost use Rattle.rules.specs.Values.{Env, evals};
+ghost use Rattle.rules.specs.Syntax.{Exp, Arg, Decl};
+ghost use Rattle.rules.specs.Values.{Env, evals, bound};
 ghost use Rattle.rules.specs.Frames.{Frame as Names, resolve, resolves};
-ghost use Rattle.rules.specs.Unfold.{Range, Wires};
+ghost use Rattle.rules.specs.Unfold.{Range, Wires, State, declare};
 ghost use Rattle.tape.specs.Layout.{kindOf, headIn, valueOf};
 ghost use Rattle.tape.specs.Encoding.{argW, listW};
 ghost use Rattle.tape.specs.Resolved.{slotW};
@@ -15,6 +15,7 @@ ghost use Rattle.frames.specs.Ports.{Port, portW, HerePorts, WrittenPort
 ghost use Rattle.frames.specs.Rows.{amongOf};
 ghost use Rattle.frames.specs.Lists.{valueW, HereValues, WrittenValues, Gathers, taggedW, tagged, HereArgs, WrittenArgs, Resolves};
 ghost use Rattle.frames.specs.Args.{HereArg, WrittenArg, Finds, Fits};
+ghost use Rattle.frames.specs.Fresh.{Filled, Declares, nameWords, HereDecls, WrittenDecls};
 use tape::Kind;
 use values::Apart;
 use values::Size;
@@ -39,6 +40,14 @@ pub enum Many {
     Done(usize, usize),
     Wrong(usize),
 }
+
+// How many places are filled, the next wire, and the place after the words of all that was read; or a refusal's number and place.
+pub enum Fresh {
+    Done(usize, usize, usize),
+    Wrong(usize, usize),
+}
+
+const WIRES: usize = 1536;
 
 fn wide(x: u16) -> usize
     ensures { λ r. ⌜ (r ≡ x) × (r < 65536) ⌝ }
@@ -204,4 +213,67 @@ pub fn tie(
         }
     }
     Many::Done(k, i)
+}
+
+// The names declared from `at` on by words of a kind, each with fresh wires from `wires` on: bounds (10), 11, then 16.
+pub fn declare(
+    tape: &[u32],
+    values: &[i32; 48],
+    at: usize,
+    end: usize,
+    kind: u32,
+    to: usize,
+    wires: usize,
+    base: &mut [u16; 48],
+    len: &mut [u16; 48],
+    low: &mut [i32; 48],
+) -> Fresh
+    requires { ⌜ WrittenDecls (now tape) at end kind to (now base) (now len) (now low) ⌝ }
+    requires { ⌜ (to ≤ 48) × (wires ≤ 1536) ⌝ }
+    ensures { λ r. ⌜ ((ρ : Env) (ds : List (Decl ℕ)) (σ : Names Range) (s : State) → Knows (now (values .entry)) ρ → HereDecls (now (tape .entry)) at end kind ds
+        → Filled σ to (now (base .entry)) (now (len .entry)) (now (low .entry)) → s .next ≡ wires
+        → Declares (declare ρ ds σ s) s (at + length (listW (nameWords kind) ds)) r (now (base .exit)) (now (len .exit)) (now (low .exit))) ⌝ }
+{
+    let mut i = at;
+    let mut k = to;
+    let mut next_wire = wires;
+    while among(tape, i, end, kind, kind) {
+        let place = tape::value_of(tape[i]) / 32;
+        let size = values::measure(tape, values, i, end);
+        match size {
+            Size::Wrong(n) => {
+                return Fresh::Wrong(n, place);
+            }
+            Size::Wires(lowest, count, next) => {
+                if count > WIRES - next_wire {
+                    return Fresh::Wrong(16, place);
+                }
+                keep_wire(base, k, next_wire);
+                keep_wire(len, k, count);
+                keep_value(low, k, lowest);
+                next_wire += count;
+                k += 1;
+                i = next;
+            }
+        }
+    }
+    Fresh::Done(k, next_wire, i)
+}
+
+// The same frame, where the index i has the value v.
+pub fn with_index(f: Frame, i: usize, v: i32) -> Frame
+    requires { ⌜ i < 48 ⌝ }
+    ensures { λ r. ⌜ ((ρ : Env) (σ : Names Range) → Stands f ρ σ → Stands r (bound ρ i v) σ) ⌝ }
+{
+    let base = f.base;
+    let len = f.len;
+    let low = f.low;
+    let mut value = f.value;
+    value[i] = v;
+    Frame {
+        base,
+        len,
+        low,
+        value,
+    }
 }
