@@ -85,7 +85,7 @@ pub fn argument(tape: &[u32], f: Frame, at: usize, end: usize) -> Found
 }
 
 // Whether the word at i, before `end`, has a kind from lo to hi.
-fn among(tape: &[u32], i: usize, end: usize, lo: u32, hi: u32) -> bool
+pub fn among(tape: &[u32], i: usize, end: usize, lo: u32, hi: u32) -> bool
     requires { ⌜ end ≤ length (now tape) ⌝ }
     ensures { λ r. ⌜ r ≡ amongOf (now (tape .entry)) i end lo hi ⌝ }
 {

@@ -160,7 +160,7 @@ module _ {t : List ℕ} {at end : ℕ} {B : Block ℕ Callee} (h : HereBlock t a
     length-append (listW genericW (B .generics)) (listW inW (B .inputs) ++ (listW outW (B .outputs) ++ (listW (nameWords 13) (B .locals) ++ (pack 8 0 (length (bodyW (B .body))) ∷ bodyW (B .body))))),
     length-append (listW inW (B .inputs)) (listW outW (B .outputs) ++ (listW (nameWords 13) (B .locals) ++ (pack 8 0 (length (bodyW (B .body))) ∷ bodyW (B .body)))),
     length-append (listW outW (B .outputs)) (listW (nameWords 13) (B .locals) ++ (pack 8 0 (length (bodyW (B .body))) ∷ bodyW (B .body))),
-    length-append (listW (nameWords 13) (B .locals)) (pack 8 0 (length (bodyW (B .body))) ∷ bodyW (B .body))
+    length-append (listW (nameWords 13) (B .locals)) (pack 8 0 (length (bodyW (B .body))) ∷ bodyW (B .body)),
   )
 
   -- ---- the kinds of the words where the parts begin
@@ -209,10 +209,10 @@ module _ {t : List ℕ} {at end : ℕ} {B : Block ℕ Callee} (h : HereBlock t a
   body-room = room
 
   module _ (rs : List Range) (n : length (B .inputs) + length (B .outputs) ≡ length rs) where
-    abbrev these : List Port
+    abbrev pub these : List Port
     these = ports (B .inputs) (B .outputs) rs
 
-    is-ported : Ported (B .inputs) (B .outputs) rs these
+    pub is-ported : Ported (B .inputs) (B .outputs) rs these
     is-ported = ported (B .inputs) (B .outputs) rs (h .inputs) (h .outputs) n
 
     pub ports-end : afterGenerics at B + length (listW portW these) ≡ afterPorts at B
@@ -232,3 +232,20 @@ module _ {t : List ℕ} {at end : ℕ} {B : Block ℕ Callee} (h : HereBlock t a
             (⊎-elim (λ p. over-below t _ end 11 12 p) (λ p. over-above t _ end 11 12 p) (kind-locals (λ k. (k < 11) ⊎ (12 < k)) (inr (omega arith)) (inl (omega arith))));
       };
     }
+
+pub record WrittenBlock (t : List ℕ) (at end : ℕ) : Type 0 where
+  pub block : Block ℕ Callee
+  pub here : HereBlock t at end block
+
+-- ---- a block's generics, one word each
+
+pub starts-generics : {t : List ℕ} {end : ℕ} → Starts t end 10 10 genericW (λ n. nameW n < 33554432)
+unfolding genericW
+starts-generics {t} {end} n i g l s =
+    let e : kindOf (getD t i 0) ≡ 10 = rw (lies-first l) (kind-of 10 0 (nameW n) (omega arith) g) in
+    (record { low = omega (arith, e); high = omega (arith, e); stops = stops-kind t i end (omega (arith, e)) }, omega arith)
+
+pub generics-many : (ns : List Name) → length (listW genericW ns) ≡ length ns
+unfolding listW genericW
+generics-many [] = refl
+generics-many (n ∷ ns) = ap suc (generics-many ns)
