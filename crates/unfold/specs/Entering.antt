@@ -105,7 +105,7 @@ unfolding blanks
 blank-lows [] = refl
 blank-lows (n ∷ ns) = ap (λ l. pos 0 ∷ l) (blank-lows ns)
 
-blank-many : (ns : List Name) → length (blanks Wires ns) ≡ length ns
+pub blank-many : (ns : List Name) → length (blanks Wires ns) ≡ length ns
 unfolding blanks
 blank-many [] = refl
 blank-many (n ∷ ns) = ap suc (blank-many ns)
@@ -211,7 +211,7 @@ enters ρ B rs s n n′ (Ready k w m) b l o e p (σ, f, q, u, g) = (σ, enter-th
 enters ρ B rs s n n′ (No q p) b l o e _ f = (p, enter-then ρ B rs s e f)
 
 -- as many names as wires given
-tied-many : (ρ : Env) (ds : List (Decl ℕ)) (rs : List Range) {τ : Names Range} → tie Wires ρ ds rs ≡ ok τ → length τ ≡ length rs
+pub tied-many : (ρ : Env) (ds : List (Decl ℕ)) (rs : List Range) {τ : Names Range} → tie Wires ρ ds rs ≡ ok τ → length τ ≡ length rs
 tied-many ρ ds rs {τ} e = sym (length-map τ (λ x. x .cells)) ∙ ap length (tie-cells ρ ds rs e)
 
 -- what the code has in hand once the ports are tied

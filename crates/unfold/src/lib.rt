@@ -2,18 +2,32 @@
 ghost use mathlib.Core.Path.{_≡_};
 ghost use Prim.Native.Nat.{ℕ, _+_, _*_, _-_, _<_, _≤_};
 ghost use mathlib.Core.List.{List, _++_};
-ghost use lib.ListN.{length};
+ghost use lib.ListN.{length, getD};
 ghost use Rattle.rules.specs.Syntax.{Exp, Arg, Block, Callee};
 ghost use Rattle.rules.specs.Values.{Env};
 ghost use Rattle.rules.specs.Frames.{Frame as Names};
 ghost use Rattle.rules.specs.Unfold.{Range, State};
 ghost use Rattle.frames.specs.Stands.{Stands, Knows};
 ghost use Rattle.unfold.specs.Header.{HereBlock, WrittenBlock, afterGenerics, afterLocals};
+ghost use Rattle.tape.specs.Layout.{valueOf};
+ghost use Rattle.unfold.specs.Opening.{WrittenOpen, Opens};
 ghost use Rattle.unfold.specs.Entering.{HereCall, WrittenCall, Collects, Offers, WrittenHeader, entered, Enters};
 use frames::Frame;
 use frames::Fresh;
 use frames::Many;
 use tape::Kind;
+
+// A body's first word, the place after its last, and the next wire; or the number of a refusal.
+pub enum Entry {
+    Body(usize, usize, usize),
+    Wrong(usize),
+}
+
+// A block that is entered, with the frame of its body.
+pub struct Opened {
+    pub entry: Entry,
+    pub frame: Frame,
+}
 
 // The place after the generics of a block, whose words begin at `at`.
 fn after_generics(tape: &[u32], at: usize, end: usize) -> usize
@@ -84,5 +98,80 @@ fn enter(
             len,
             low,
         ),
+    }
+}
+
+// The place after a body whose word is at `at`.
+fn after_body(tape: &[u32], at: usize) -> usize
+    requires { ⌜ (at < length (now tape)) × (at < 33554432) ⌝ }
+    ensures { λ r. ⌜ r ≡ at + 1 + valueOf (getD (now (tape .entry)) at 0) ⌝ }
+{
+    at + 1 + tape::value_of(tape[at])
+}
+
+// The call whose words begin at `at`, of the block at `place`, up to its body: generics, every subscript, each port, then its locals.
+pub fn open(
+    tape: &[u32],
+    f: Frame,
+    wires: usize,
+    at: usize,
+    end: usize,
+    place: usize,
+    last: usize,
+) -> Opened
+    requires { ⌜ WrittenOpen (now tape) at end place last f ⌝ }
+    requires { ⌜ wires ≤ 1536 ⌝ }
+    ensures { λ r. ⌜ ((ρ : Env) (σ : Names Range) (gs : List (Exp ℕ)) (ins outs : List (Arg ℕ)) (B : Block ℕ Callee) (s : State) → Stands f ρ σ
+        → HereCall (now (tape .entry)) at end (length σ) gs ins outs → HereBlock (now (tape .entry)) place last B
+        → length (B .inputs) + length (B .outputs) ≡ length (ins ++ outs) → s .next ≡ wires → Opens ρ σ gs (ins ++ outs) B s place (r .entry) (r .frame)) ⌝ }
+{
+    let to = after_generics(tape, place, last) - place - 1;
+    let mut value = [0i32; 48];
+    let mut base = [0u16; 48];
+    let mut len = [0u16; 48];
+    let mut low = [0i32; 48];
+    let found = gather(tape, f, at, end, to, &mut value, &mut base, &mut len);
+    match found {
+        Many::Wrong(n) => Opened {
+            entry: Entry::Wrong(n),
+            frame: Frame {
+                base,
+                len,
+                low,
+                value,
+            },
+        },
+        Many::Done(_, _) => {
+            let fresh = enter(
+                tape,
+                &value,
+                place,
+                last,
+                wires,
+                &mut base,
+                &mut len,
+                &mut low,
+            );
+            match fresh {
+                Fresh::Wrong(n, _) => Opened {
+                    entry: Entry::Wrong(n),
+                    frame: Frame {
+                        base,
+                        len,
+                        low,
+                        value,
+                    },
+                },
+                Fresh::Done(_, next, body) => Opened {
+                    entry: Entry::Body(body + 1, after_body(tape, body), next),
+                    frame: Frame {
+                        base,
+                        len,
+                        low,
+                        value,
+                    },
+                },
+            }
+        }
     }
 }
