@@ -1,3 +1,4 @@
 pub mod Header
 pub mod Entering
 pub mod Opening
+pub mod Adding

@@ -11,10 +11,14 @@ ghost use Rattle.frames.specs.Stands.{Stands, Knows};
 ghost use Rattle.unfold.specs.Header.{HereBlock, WrittenBlock, afterGenerics, afterLocals};
 ghost use Rattle.tape.specs.Layout.{valueOf};
 ghost use Rattle.unfold.specs.Opening.{WrittenOpen, Opens};
+ghost use Rattle.gates.specs.Shows.{Shows, Gives};
+ghost use Rattle.unfold.specs.Adding.{WrittenGate, Fits, added};
 ghost use Rattle.unfold.specs.Entering.{HereCall, WrittenCall, Collects, Offers, WrittenHeader, entered, Enters};
 use frames::Frame;
 use frames::Fresh;
 use frames::Many;
+use gates::Counts;
+use gates::Step;
 use tape::Kind;
 
 // A body's first word, the place after its last, and the next wire; or the number of a refusal.
@@ -172,6 +176,37 @@ pub fn open(
                     },
                 },
             }
+        }
+    }
+}
+
+// The call of a primitive whose words begin at `at`: generics, every subscript, then 17 and 18.
+pub fn add(
+    tape: &[u32],
+    net: &mut [u16],
+    marks: &mut [bool; 1536],
+    f: Frame,
+    s: Counts,
+    nin: usize,
+    at: usize,
+    end: usize,
+    kind: u16,
+) -> Step
+    requires { ⌜ WrittenGate (now tape) at end f kind ⌝ }
+    requires { ⌜ (5124 ≤ length (now net)) × (kind < 10) ⌝ }
+    ensures { λ r. ⌜ ((ρ : Env) (σ : Names Range) (gs : List (Exp ℕ)) (ins outs : List (Arg ℕ)) (v : State) → Stands f ρ σ → HereCall (now (tape .entry)) at end (length σ) gs ins outs
+        → Fits kind ρ σ (ins ++ outs) → Shows v s (now (net .entry)) (now (marks .entry)) → Gives (added nin kind ρ σ gs (ins ++ outs) v) r (now (net .exit)) (now (marks .exit))) ⌝ }
+    ensures { λ r. ⌜ length (now (net .exit)) ≡ length (now (net .entry)) ⌝ }
+{
+    let mut value = [0i32; 48];
+    let mut base = [0u16; 48];
+    let mut len = [0u16; 48];
+    let found = gather(tape, f, at, end, 0, &mut value, &mut base, &mut len);
+    match found {
+        Many::Wrong(n) => Step::Wrong(n),
+        Many::Done(_, _) => {
+            let gate = gates::gate_on(kind, &base);
+            gates::emit(net, marks, s, nin, gate)
         }
     }
 }
