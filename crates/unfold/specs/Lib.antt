@@ -2,3 +2,4 @@ pub mod Header
 pub mod Entering
 pub mod Opening
 pub mod Adding
+pub mod Statements
