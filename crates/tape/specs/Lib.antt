@@ -3,3 +3,4 @@ pub mod Encoding
 pub mod Written
 pub mod Lies
 pub mod Example
+pub mod Resolved

@@ -1,0 +1,5 @@
+pub mod Header
+pub mod Entering
+pub mod Opening
+pub mod Adding
+pub mod Statements

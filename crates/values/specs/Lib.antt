@@ -1,0 +1,5 @@
+pub mod Numbers
+pub mod Factors
+pub mod Here
+pub mod Taking
+pub mod Sizes
