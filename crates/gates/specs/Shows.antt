@@ -184,18 +184,3 @@ pub gate-is : (k : ℕ) (ends ws : List ℕ) → Ends ends ws → inputsOf k < 4
 unfolding gateOn
 gate-is k ends ws e b l =
     rw (slot-is ends ws 0 (inputsOf k) e (omega arith) l, slot-is ends ws 1 (inputsOf k) e (omega arith) l, slot-is ends ws 2 (inputsOf k) e (omega arith) l, e .is (inputsOf k) b)
-
--- the kinds that have two inputs
-pub two : (k : ℕ) → k < 10 → (k ≡ 8 → ⊥) → (k ≡ 9 → ⊥) → (k ≡ 0 → ⊥) → (k ≡ 1 → ⊥) → (k ≡ 7 → ⊥) → inputsOf k ≡ 2
-unfolding primitive
-two zero h a b c d e = absurd (c refl)
-two (suc zero) h a b c d e = absurd (d refl)
-two (suc (suc zero)) h a b c d e = refl
-two (suc (suc (suc zero))) h a b c d e = refl
-two (suc (suc (suc (suc zero)))) h a b c d e = refl
-two (suc (suc (suc (suc (suc zero))))) h a b c d e = refl
-two (suc (suc (suc (suc (suc (suc zero)))))) h a b c d e = refl
-two (suc (suc (suc (suc (suc (suc (suc zero))))))) h a b c d e = absurd (e refl)
-two (suc (suc (suc (suc (suc (suc (suc (suc zero)))))))) h a b c d e = absurd (a refl)
-two (suc (suc (suc (suc (suc (suc (suc (suc (suc zero))))))))) h a b c d e = absurd (b refl)
-two (suc (suc (suc (suc (suc (suc (suc (suc (suc (suc n)))))))))) h a b c d e = absurd (omega arith)

@@ -102,29 +102,6 @@ pub fn emit(net: &mut [u16], marks: &mut [bool; 1536], s: Counts, nin: usize, g:
     })
 }
 
-// How many inputs a primitive has.
-pub fn inputs(kind: u16) -> usize
-    requires { ⌜ kind < 10 ⌝ }
-    ensures { λ r. ⌜ (r ≡ inputsOf kind) × (r ≤ 3) ⌝ }
-{
-    if kind == Gate::ZERO {
-        return 0;
-    }
-    if kind == Gate::ONE {
-        return 0;
-    }
-    if kind == Gate::CONNECT {
-        return 1;
-    }
-    if kind == Gate::NOT {
-        return 1;
-    }
-    if kind == Gate::MUX {
-        return 3;
-    }
-    2
-}
-
 // Input slot i of a gate with n inputs.
 fn slot(ends: &[u16; 48], i: usize, n: usize) -> u16
     requires { ⌜ i < 48 ⌝ }
@@ -141,7 +118,7 @@ pub fn gate_on(kind: u16, ends: &[u16; 48]) -> Gate
     requires { ⌜ kind < 10 ⌝ }
     ensures { λ r. ⌜ ((ws : List ℕ) → Ends (now (ends .entry)) ws → inputsOf kind < length ws → r ≡ gateOn kind ws) ⌝ }
 {
-    let n = inputs(kind);
+    let n = Gate::inputs(kind);
     let a = slot(ends, 0, n);
     let b = slot(ends, 1, n);
     let c = slot(ends, 2, n);

@@ -9,6 +9,7 @@ use lib.Dec.{ltb}
 use borrow.Author.Tests.{lt-ltb, le-ltb}
 use Rattle.rules.specs.declared.Gate.{Gate}
 use Rattle.rules.specs.Text.{bytes, joined}
+use Rattle.rules.specs.Laws.Nets.{three}
 use Rattle.rules.specs.Primitives.{primitive, inputsOf}
 use Rattle.rules.specs.Netlist.{inputs, outputs, wires, gates, gateAt, inputsAt, Fine, WellFormed}
 use Rattle.rules.specs.Flat.{between, wireText, entryText, portsText, varsText, wiresText, gateText, gatesText, flatText}
@@ -38,20 +39,6 @@ pub slot-free : (n k x : ℕ) → n ≤ k → slotText n k x ≡ []
 unfolding slotText
 slot-free n k x h = rw (le-ltb _ _ h)
 
-few-inputs : (k : ℕ) → inputsOf k ≤ 3
-unfolding primitive
-few-inputs zero = omega arith
-few-inputs (suc zero) = omega arith
-few-inputs (suc (suc zero)) = omega arith
-few-inputs (suc (suc (suc zero))) = omega arith
-few-inputs (suc (suc (suc (suc zero)))) = omega arith
-few-inputs (suc (suc (suc (suc (suc zero))))) = omega arith
-few-inputs (suc (suc (suc (suc (suc (suc zero)))))) = omega arith
-few-inputs (suc (suc (suc (suc (suc (suc (suc zero))))))) = omega arith
-few-inputs (suc (suc (suc (suc (suc (suc (suc (suc zero)))))))) = omega arith
-few-inputs (suc (suc (suc (suc (suc (suc (suc (suc (suc zero))))))))) = omega arith
-few-inputs (suc (suc (suc (suc (suc (suc (suc (suc (suc (suc k)))))))))) = omega arith
-
 abbrev pub slotsOf : ℕ → Gate → List (List ℕ)
 slotsOf n g = slotText n 0 (g .a) ∷ slotText n 1 (g .b) ∷ slotText n 2 (g .c) ∷ []
 
@@ -64,7 +51,7 @@ three-slots (suc (suc (suc zero))) a b c h = simp (append-nil, append-assoc)
 three-slots (suc (suc (suc (suc n)))) a b c h = absurd (omega arith)
 
 pub slots-of : {n : ℕ} (g : Gate) → n ≡ inputsOf (g .kind) → joined (slotsOf n g) ≡ wiresText (inputsAt g)
-slots-of {n} g e = ap (λ (n : ℕ). joined (slotsOf n g)) e ∙ three-slots (inputsOf (g .kind)) (g .a) (g .b) (g .c) (few-inputs (g .kind))
+slots-of {n} g e = ap (λ (n : ℕ). joined (slotsOf n g)) e ∙ three-slots (inputsOf (g .kind)) (g .a) (g .b) (g .c) (three (g .kind))
 
 -- ---- gates
 
