@@ -1,5 +1,5 @@
 -- The sweep over the words of a tape, from the first to the last: what becomes of each word, or the refusal that it gives. Assumes nothing.
-use Prim.Native.Nat.{ℕ, zero, suc, _+_, _*_, _-_, _<_, _≤_, max}
+use Prim.Native.Nat.{ℕ, zero, suc, _+_, _*_, _-_, _<_, _≤_, min, max}
 use mathlib.Core.Path.{_≡_}
 use mathlib.Core.Bool.{Bool, true, false, not, _&&_, _||_}
 use mathlib.Core.List.{List, [], _∷_, _++_, map}
@@ -57,7 +57,7 @@ gateHeading k = record { generics = 0; inputs = inputsOf k; outputs = 1; want = 
 
 -- what a call wants: a primitive by its kind, a block by its number and 10
 unfoldable pub headingOf : List ℕ → List ℕ → ℕ → Heading
-headingOf H F c = pick (ltb c 10) (gateHeading c) (headingAt H (getD F (c - 10) 0))
+headingOf H F c = pick (ltb c 10) (gateHeading c) (headingAt H (min (getD F (c - 10) 0) 3140))
 
 -- ---- what a call gives: the words after it up to the next statement
 
@@ -93,8 +93,8 @@ sortFits h r = pick (eqb h 0) (isWire r || isVector r) (isVector r)
 unfoldable pub shapeFits : ℕ → Role → Bool → Bool
 shapeFits h r wire = pick (eqb h 0) (pick wire (isWire r) (isVector r)) wire
 
--- s: the text; H: the headings, and F where those of each block begin; N: the words that name blocks
-module _ (s H F N : List ℕ) where
+-- s: the text
+module _ (s : List ℕ) where
   abbrev pub scopeAt : State → Scope
   scopeAt S = scopeIn s (take (S .count) (S .scope))
 
@@ -104,68 +104,84 @@ module _ (s H F N : List ℕ) where
     _ ← needAt (placeOf w) (standing p (getD (S .until) k 0) (roleAt (scopeAt S) k)) 7
     ok k
 
-  unfoldable pub argumentStep : State → ℕ → Out ℕ
-  argumentStep S w = do
-    k ← find (scopeAt S) (nameOf s w)
-    _ ← needAt (placeOf w) (sortFits (headIn w) (roleAt (scopeAt S) k)) 7
-    _ ← needAt (placeOf w) (shapeFits (headIn w) (roleAt (scopeAt S) k) (eqb (headIn (getD H (S .want) 0)) 0)) 8
-    ok k
-
   unfoldable pub indexStep : State → ℕ → Out ℕ
   indexStep S w = do
     k ← find (scopeAt S) (nameOf s w)
     _ ← needAt (placeOf w) (isIndex (roleAt (scopeAt S) k)) 7
     ok k
 
-  -- a primitive by its kind, or else a block by its number and 10
-  unfoldable pub calleeIn : ℕ → Out ℕ
-  calleeIn w =
-      let k = indexOf (lettersOf s w) primitiveNames in
-      let b = indexOf (lettersOf s w) (map (lettersOf s) N) in
-      pick (ltb k 10) (ok k) do
-        _ ← needAt (placeOf w) (ltb b (length (map (lettersOf s) N))) 7
-        ok (10 + b)
+  -- H: the headings
+  unfoldable pub argumentStep : List ℕ → State → ℕ → Out ℕ
+  argumentStep H S w = do
+    k ← find (scopeAt S) (nameOf s w)
+    _ ← needAt (placeOf w) (sortFits (headIn w) (roleAt (scopeAt S) k)) 7
+    _ ← needAt (placeOf w) (shapeFits (headIn w) (roleAt (scopeAt S) k) (eqb (headIn (getD H (S .want) 0)) 0)) 8
+    ok k
 
-  abbrev pub countsFit : Heading → List ℕ → Bool
-  countsFit h ws = eqb (genericsGiven 0 ws) (h .generics) && eqb (given INPUT ws) (h .inputs) && eqb (given OUTPUT ws) (h .outputs)
+  unfoldable pub declareStep : State → ℕ → Out (Unit {0})
+  declareStep S w = once (scopeAt S) (nameOf s w)
 
+  -- N: the words that name blocks. A primitive by its kind, or else a block by its number and 10
+  unfoldable pub calleeIn : List ℕ → ℕ → Out ℕ
+  calleeIn N w =
+      pick (ltb (indexOf (lettersOf s w) primitiveNames) 10) (ok (indexOf (lettersOf s w) primitiveNames)) do
+        _ ← needAt (placeOf w) (isIn (lettersOf s w) (map (lettersOf s) N)) 7
+        ok (10 + indexOf (lettersOf s w) (map (lettersOf s) N))
+
+  -- "a block name twice, or a block named as a primitive"
+  unfoldable pub blockStep : List ℕ → State → ℕ → Out (Unit {0})
+  blockStep N S w = needAt (placeOf w) (not (isIn (lettersOf s w) (primitiveNames ++ map (lettersOf s) (take (S .blocks) N)))) 6
+
+abbrev pub countsFit : Heading → List ℕ → Bool
+countsFit h ws = eqb (genericsGiven 0 ws) (h .generics) && eqb (given INPUT ws) (h .inputs) && eqb (given OUTPUT ws) (h .outputs)
+
+-- F: where each block's heading begins
+module _ (s H F N : List ℕ) where
   unfoldable pub callStep : ℕ → List ℕ → Out ℕ
   callStep w ws = do
-    c ← calleeIn w
+    c ← calleeIn s N w
     _ ← needAt (placeOf w) (countsFit (headingOf H F c) ws) 8
     ok c
 
-  unfoldable pub blockStep : State → ℕ → Out (Unit {0})
-  blockStep S w = needAt (placeOf w) (not (isIn (lettersOf s w) (primitiveNames ++ map (lettersOf s) (take (S .blocks) N)))) 6
+  -- "no main (place: text length) or main with generics (its name)"
+  unfoldable pub mainIn : Out ℕ
+  mainIn =
+      let m = indexOf (bytes "main") (map (lettersOf s) N) in do
+        _ ← needAt (length s) (isIn (bytes "main") (map (lettersOf s) N)) 9
+        _ ← needAt (placeOf (getD N m 0)) (not (eqb (kindOf (getD H (min (getD F m 0) 3140 + 1) 0)) GENERIC)) 9
+        ok m
 
+-- ---- a word and the state after it
+
+abbrev pub called : Heading → State → ℕ → ℕ → ℕ × State
+called h S w c = (valued w (placeOf w * 128 + c), record { scope = S .scope; count = S .count; until = S .until; index = S .index; want = h .want; blocks = S .blocks })
+
+abbrev pub argued : State → ℕ → ℕ → ℕ × State
+argued S w k = (valued w k, record { scope = S .scope; count = S .count; until = S .until; index = S .index; want = S .want + 1; blocks = S .blocks })
+
+abbrev pub indexed : State → ℕ → ℕ → ℕ × State
+indexed S w k = (valued w k, record { scope = S .scope; count = S .count; until = S .until; index = k; want = S .want; blocks = S .blocks })
+
+abbrev pub entered : State → ℕ → ℕ → ℕ × State
+entered S w e = (w, record { scope = S .scope; count = S .count; until = set (S .until) (S .index) (max (getD (S .until) (S .index) 0) e); index = S .index; want = S .want; blocks = S .blocks })
+
+abbrev pub begun : State → ℕ → ℕ × State
+begun S w = (w, record { scope = S .scope; count = 0; until = S .until; index = 48; want = S .want; blocks = S .blocks + 1 })
+
+abbrev pub declares : State → ℕ → ℕ × State
+declares S w = (w, record { scope = set (S .scope) (S .count) w; count = S .count + 1; until = S .until; index = S .index; want = S .want; blocks = S .blocks })
+
+module _ (s H F N : List ℕ) where
   -- a word at a place, the words after it being ws: what it becomes, and the state after it
-  abbrev pub called : State → ℕ → ℕ → ℕ × State
-  called S w c = (valued w (placeOf w * 128 + c), record { scope = S .scope; count = S .count; until = S .until; index = S .index; want = headingOf H F c .want; blocks = S .blocks })
-
-  abbrev pub argued : State → ℕ → ℕ → ℕ × State
-  argued S w k = (valued w k, record { scope = S .scope; count = S .count; until = S .until; index = S .index; want = S .want + 1; blocks = S .blocks })
-
-  abbrev pub indexed : State → ℕ → ℕ → ℕ × State
-  indexed S w k = (valued w k, record { scope = S .scope; count = S .count; until = S .until; index = k; want = S .want; blocks = S .blocks })
-
-  abbrev pub entered : State → ℕ → ℕ → ℕ × State
-  entered S w e = (w, record { scope = S .scope; count = S .count; until = set (S .until) (S .index) (max (getD (S .until) (S .index) 0) e); index = S .index; want = S .want; blocks = S .blocks })
-
-  abbrev pub begun : State → ℕ → ℕ × State
-  begun S w = (w, record { scope = S .scope; count = 0; until = S .until; index = 48; want = S .want; blocks = S .blocks + 1 })
-
-  abbrev pub declares : State → ℕ → ℕ × State
-  declares S w = (w, record { scope = set (S .scope) (S .count) w; count = S .count + 1; until = S .until; index = S .index; want = S .want; blocks = S .blocks })
-
   unfoldable pub turn : ℕ → State → ℕ → List ℕ → Out (ℕ × State)
   turn p S w ws =
-      pick (eqb (kindOf w) NAME) (nameStep p S w >>= λ k. ok (valued w k, S))
-      (pick (eqb (kindOf w) CALL) (callStep w ws >>= λ c. ok (called S w c))
-      (pick (eqb (kindOf w) INPUT || eqb (kindOf w) OUTPUT) (argumentStep S w >>= λ k. ok (argued S w k))
-      (pick (eqb (kindOf w) INDEX) (indexStep S w >>= λ k. ok (indexed S w k))
+      pick (eqb (kindOf w) NAME) (nameStep s p S w >>= λ k. ok (valued w k, S))
+      (pick (eqb (kindOf w) CALL) (callStep s H F N w ws >>= λ c. ok (called (headingOf H F c) S w c))
+      (pick (eqb (kindOf w) INPUT || eqb (kindOf w) OUTPUT) (argumentStep s H S w >>= λ k. ok (argued S w k))
+      (pick (eqb (kindOf w) INDEX) (indexStep s S w >>= λ k. ok (indexed S w k))
       (pick (eqb (kindOf w) BODY) (ok (entered S w (p + 1 + valueOf w)))
-      (pick (eqb (kindOf w) BLOCK) (blockStep S w >>= λ _. ok (begun S w))
-      (pick (ltb BLOCK (kindOf w)) (once (scopeAt S) (nameOf s w) >>= λ _. ok (declares S w))
+      (pick (eqb (kindOf w) BLOCK) (blockStep s N S w >>= λ _. ok (begun S w))
+      (pick (ltb BLOCK (kindOf w)) (declareStep s S w >>= λ _. ok (declares S w))
       (ok (w, S))))))))
 
   -- the words from a place on: what they become
@@ -175,14 +191,6 @@ module _ (s H F N : List ℕ) where
     r ← turn p S w ws
     us ← sweep (p + 1) (r .1) ws
     ok (r .0 ∷ us)
-
-  -- "no main (place: text length) or main with generics (its name)"
-  unfoldable pub mainIn : Out ℕ
-  mainIn =
-      let m = indexOf (bytes "main") (map (lettersOf s) N) in do
-        _ ← needAt (length s) (ltb m (length (map (lettersOf s) N))) 9
-        _ ← needAt (placeOf (getD N m 0)) (not (eqb (kindOf (getD H (getD F m 0 + 1) 0)) GENERIC)) 9
-        ok m
 
 -- ---- what the functions of the sweep answer
 

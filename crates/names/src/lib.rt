@@ -254,7 +254,7 @@ fn leading_words(words: &[u32; 3140], from: usize, kind: u32) -> usize
         }
         i += 1;
     }
-    if from < i { i - from } else { 0 }
+    i - from
 }
 
 // The heading of a block whose name stands at a place among the headings.
@@ -367,8 +367,8 @@ fn arguments_given(tape: &[u32], from: usize, end: usize, wanted: u32) -> usize
 }
 
 // What becomes of a name in an expression at a place of the tape: the number of its declaration.
-fn named(text: &[u8], s: State, at: usize, word: u32) -> Named
-    ensures { λ r. ⌜ Tells (nameStep (now (text .entry)) [] [] [] at s word) r ⌝ }
+fn in_expression(text: &[u8], s: State, at: usize, word: u32) -> Named
+    ensures { λ r. ⌜ Tells (nameStep (now (text .entry)) at s word) r ⌝ }
 {
     let scope = s.scope;
     let until = s.until;
