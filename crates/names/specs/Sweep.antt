@@ -10,7 +10,7 @@ use Rattle.rules.specs.Outcome.{Out, ok, refuse, _>>=_, at, need, needAt}
 use Rattle.rules.specs.Primitives.{inputsOf, primitiveNames}
 use Rattle.rules.specs.Names.{Role, a-generic, a-wire, a-vector, an-index, isWire, isVector, isIndex, Scope, find, roleAt, once}
 use Rattle.tape.specs.Layout.{kindOf, headIn, valueOf, NAME, BRACKET, CALL, INPUT, OUTPUT, INDEX, BODY, BLOCK, GENERIC, IN, OUT}
-use Rattle.names.specs.declared.State.{State}
+use Rattle.names.specs.declared.Spot.{Spot}
 use Rattle.names.specs.declared.Heading.{Heading}
 use Rattle.names.specs.declared.Named.{Named}
 use Rattle.names.specs.declared.Named.the-variants.{Done, No}
@@ -40,6 +40,11 @@ unfoldable pub titles : List ℕ → List ℕ
 titles [] = []
 titles (w ∷ ws) = pick (eqb (kindOf w) BLOCK) (w ∷ titles ws) (titles ws)
 
+-- every place where a heading begins is there
+pub record Rows (H F : List ℕ) : Type 0 where
+  pub few : length H ≤ 3140
+  pub there : (b : ℕ) → getD F b 0 ≤ 3140
+
 -- how many words of a kind stand first
 unfoldable pub leading : ℕ → List ℕ → ℕ
 leading k [] = 0
@@ -57,7 +62,7 @@ gateHeading k = record { generics = 0; inputs = inputsOf k; outputs = 1; want = 
 
 -- what a call wants: a primitive by its kind, a block by its number and 10
 unfoldable pub headingOf : List ℕ → List ℕ → ℕ → Heading
-headingOf H F c = pick (ltb c 10) (gateHeading c) (headingAt H (min (getD F (c - 10) 0) 3140))
+headingOf H F c = pick (ltb c 10) (gateHeading c) (headingAt H (getD F (c - 10) 0))
 
 -- ---- what a call gives: the words after it up to the next statement
 
@@ -93,33 +98,31 @@ sortFits h r = pick (eqb h 0) (isWire r || isVector r) (isVector r)
 unfoldable pub shapeFits : ℕ → Role → Bool → Bool
 shapeFits h r wire = pick (eqb h 0) (pick wire (isWire r) (isVector r)) wire
 
--- s: the text
+-- s: the text, ws: the words of the names that are declared
 module _ (s : List ℕ) where
-  abbrev pub scopeAt : State → Scope
-  scopeAt S = scopeIn s (take (S .count) (S .scope))
-
-  unfoldable pub nameStep : ℕ → State → ℕ → Out ℕ
-  nameStep p S w = do
-    k ← find (scopeAt S) (nameOf s w)
-    _ ← needAt (placeOf w) (standing p (getD (S .until) k 0) (roleAt (scopeAt S) k)) 7
+  -- u: where the loops over each declared index end
+  unfoldable pub nameStep : ℕ → List ℕ → List ℕ → ℕ → Out ℕ
+  nameStep p ws u w = do
+    k ← find (scopeIn s ws) (nameOf s w)
+    _ ← needAt (placeOf w) (standing p (getD u k 0) (roleAt (scopeIn s ws) k)) 7
     ok k
 
-  unfoldable pub indexStep : State → ℕ → Out ℕ
-  indexStep S w = do
-    k ← find (scopeAt S) (nameOf s w)
-    _ ← needAt (placeOf w) (isIndex (roleAt (scopeAt S) k)) 7
+  unfoldable pub indexStep : List ℕ → ℕ → Out ℕ
+  indexStep ws w = do
+    k ← find (scopeIn s ws) (nameOf s w)
+    _ ← needAt (placeOf w) (isIndex (roleAt (scopeIn s ws) k)) 7
     ok k
 
-  -- H: the headings
-  unfoldable pub argumentStep : List ℕ → State → ℕ → Out ℕ
-  argumentStep H S w = do
-    k ← find (scopeAt S) (nameOf s w)
-    _ ← needAt (placeOf w) (sortFits (headIn w) (roleAt (scopeAt S) k)) 7
-    _ ← needAt (placeOf w) (shapeFits (headIn w) (roleAt (scopeAt S) k) (eqb (headIn (getD H (S .want) 0)) 0)) 8
+  -- v: the word of the port that the argument is for
+  unfoldable pub argumentStep : List ℕ → ℕ → ℕ → Out ℕ
+  argumentStep ws v w = do
+    k ← find (scopeIn s ws) (nameOf s w)
+    _ ← needAt (placeOf w) (sortFits (headIn w) (roleAt (scopeIn s ws) k)) 7
+    _ ← needAt (placeOf w) (shapeFits (headIn w) (roleAt (scopeIn s ws) k) (eqb (headIn v) 0)) 8
     ok k
 
-  unfoldable pub declareStep : State → ℕ → Out (Unit {0})
-  declareStep S w = once (scopeAt S) (nameOf s w)
+  unfoldable pub declareStep : List ℕ → ℕ → Out (Unit {0})
+  declareStep ws w = once (scopeIn s ws) (nameOf s w)
 
   -- N: the words that name blocks. A primitive by its kind, or else a block by its number and 10
   unfoldable pub calleeIn : List ℕ → ℕ → Out ℕ
@@ -129,8 +132,8 @@ module _ (s : List ℕ) where
         ok (10 + indexOf (lettersOf s w) (map (lettersOf s) N))
 
   -- "a block name twice, or a block named as a primitive"
-  unfoldable pub blockStep : List ℕ → State → ℕ → Out (Unit {0})
-  blockStep N S w = needAt (placeOf w) (not (isIn (lettersOf s w) (primitiveNames ++ map (lettersOf s) (take (S .blocks) N)))) 6
+  unfoldable pub blockStep : List ℕ → ℕ → Out (Unit {0})
+  blockStep N w = needAt (placeOf w) (not (isIn (lettersOf s w) (primitiveNames ++ map (lettersOf s) N))) 6
 
 abbrev pub countsFit : Heading → List ℕ → Bool
 countsFit h ws = eqb (genericsGiven 0 ws) (h .generics) && eqb (given INPUT ws) (h .inputs) && eqb (given OUTPUT ws) (h .outputs)
@@ -148,16 +151,38 @@ module _ (s H F N : List ℕ) where
   mainIn =
       let m = indexOf (bytes "main") (map (lettersOf s) N) in do
         _ ← needAt (length s) (isIn (bytes "main") (map (lettersOf s) N)) 9
-        _ ← needAt (placeOf (getD N m 0)) (not (eqb (kindOf (getD H (min (getD F m 0) 3140 + 1) 0)) GENERIC)) 9
+        _ ← needAt (placeOf (getD N m 0)) (not (eqb (kindOf (getD H (getD F m 0 + 1) 0)) GENERIC)) 9
         ok m
 
+-- what is made of an outcome's value
+unfoldable pub after : {A B : Type 0} → Out A → (A → B) → Out B
+after (ok a) f = ok (f a)
+after (refuse n p) f = refuse n p
+
 -- ---- a word and the state after it
+
+-- what is known where a word stands
+pub record State : Type 0 where
+  -- the words of the names that its block declared so far are the first `count` of `scope`
+  pub scope : List ℕ
+  pub count : ℕ
+  -- for each declared index, where on the tape the loops over it end
+  pub until : List ℕ
+  -- the index of the loop whose body is next; 48 for a block's body
+  pub index : ℕ
+  -- where among the headings the port stands that the next argument is for
+  pub want : ℕ
+  -- how many blocks have begun
+  pub blocks : ℕ
+
+abbrev pub declaredAt : State → List ℕ
+declaredAt S = take (S .count) (S .scope)
 
 abbrev pub called : Heading → State → ℕ → ℕ → ℕ × State
 called h S w c = (valued w (placeOf w * 128 + c), record { scope = S .scope; count = S .count; until = S .until; index = S .index; want = h .want; blocks = S .blocks })
 
 abbrev pub argued : State → ℕ → ℕ → ℕ × State
-argued S w k = (valued w k, record { scope = S .scope; count = S .count; until = S .until; index = S .index; want = S .want + 1; blocks = S .blocks })
+argued S w k = (valued w k, record { scope = S .scope; count = S .count; until = S .until; index = S .index; want = min (S .want) 3140 + 1; blocks = S .blocks })
 
 abbrev pub indexed : State → ℕ → ℕ → ℕ × State
 indexed S w k = (valued w k, record { scope = S .scope; count = S .count; until = S .until; index = k; want = S .want; blocks = S .blocks })
@@ -166,22 +191,22 @@ abbrev pub entered : State → ℕ → ℕ → ℕ × State
 entered S w e = (w, record { scope = S .scope; count = S .count; until = set (S .until) (S .index) (max (getD (S .until) (S .index) 0) e); index = S .index; want = S .want; blocks = S .blocks })
 
 abbrev pub begun : State → ℕ → ℕ × State
-begun S w = (w, record { scope = S .scope; count = 0; until = S .until; index = 48; want = S .want; blocks = S .blocks + 1 })
+begun S w = (w, record { scope = S .scope; count = 0; until = S .until; index = 48; want = S .want; blocks = min (S .blocks) 64 + 1 })
 
 abbrev pub declares : State → ℕ → ℕ × State
-declares S w = (w, record { scope = set (S .scope) (S .count) w; count = S .count + 1; until = S .until; index = S .index; want = S .want; blocks = S .blocks })
+declares S w = (w, record { scope = set (S .scope) (S .count) w; count = min (S .count) 48 + 1; until = S .until; index = S .index; want = S .want; blocks = S .blocks })
 
 module _ (s H F N : List ℕ) where
   -- a word at a place, the words after it being ws: what it becomes, and the state after it
   unfoldable pub turn : ℕ → State → ℕ → List ℕ → Out (ℕ × State)
   turn p S w ws =
-      pick (eqb (kindOf w) NAME) (nameStep s p S w >>= λ k. ok (valued w k, S))
-      (pick (eqb (kindOf w) CALL) (callStep s H F N w ws >>= λ c. ok (called (headingOf H F c) S w c))
-      (pick (eqb (kindOf w) INPUT || eqb (kindOf w) OUTPUT) (argumentStep s H S w >>= λ k. ok (argued S w k))
-      (pick (eqb (kindOf w) INDEX) (indexStep s S w >>= λ k. ok (indexed S w k))
+      pick (eqb (kindOf w) NAME) (after (nameStep s p (declaredAt S) (S .until) w) (λ k. (valued w k, S)))
+      (pick (eqb (kindOf w) CALL) (after (callStep s H F N w ws) (λ c. called (headingOf H F c) S w c))
+      (pick (eqb (kindOf w) INPUT || eqb (kindOf w) OUTPUT) (after (argumentStep s (declaredAt S) (getD H (S .want) 0) w) (λ k. argued S w k))
+      (pick (eqb (kindOf w) INDEX) (after (indexStep s (declaredAt S) w) (λ k. indexed S w k))
       (pick (eqb (kindOf w) BODY) (ok (entered S w (p + 1 + valueOf w)))
-      (pick (eqb (kindOf w) BLOCK) (blockStep s N S w >>= λ _. ok (begun S w))
-      (pick (ltb BLOCK (kindOf w)) (declareStep s S w >>= λ _. ok (declares S w))
+      (pick (eqb (kindOf w) BLOCK) (after (blockStep s (take (S .blocks) N) w) (λ _. begun S w))
+      (pick (ltb BLOCK (kindOf w)) (after (declareStep s (declaredAt S) w) (λ _. declares S w))
       (ok (w, S))))))))
 
   -- the words from a place on: what they become
@@ -199,6 +224,10 @@ abbrev pub Tells : Out ℕ → Named → Type 0
 Tells o (Done k) = (o ≡ ok k) × (k < 128)
 Tells o (No n p) = o ≡ refuse n p
 
+abbrev pub Small : Named → Type 0
+Small (Done k) = k < 128
+Small (No n p) = Unit {0}
+
 -- the first of the spellings that is the same, or none is
 abbrev pub Finds : List ℕ → List (List ℕ) → Found → Type 0
 Finds l vs (At k) = (k ≡ indexOf l vs) × (k < length vs)
@@ -208,3 +237,6 @@ Finds l vs Nothing = length vs ≤ indexOf l vs
 abbrev pub Says : Out (ℕ × State) → Turn → State → Type 0
 Says o (Word w) S = o ≡ ok (w, S)
 Says o (Halt n p) S = o ≡ refuse n p
+
+abbrev pub stateOf : List ℕ → List ℕ → Spot → State
+stateOf scope until p = record { scope = scope; count = p .count; until = until; index = p .index; want = p .want; blocks = p .blocks }

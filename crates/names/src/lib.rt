@@ -8,21 +8,19 @@ ghost use mathlib.Core.List.{List, [], map, _++_};
 ghost use Prim.Native.Nat.{ℕ, _+_, _*_, _-_, _<_, _≤_, min, max};
 ghost use lib.ListN.{length, take, drop, getD, set};
 ghost use lib.Dec.{eqb, ltb};
-ghost use Rattle.rules.specs.Text.{pick, same, indexOf, bytes};
+ghost use Rattle.rules.specs.Text.{pick, same, indexOf, isIn, bytes};
 ghost use Rattle.rules.specs.Names.{isIndex};
+ghost use Rattle.rules.specs.Outcome.{Out, ok};
 ghost use Rattle.rules.specs.Primitives.{inputsOf, primitiveNames};
 ghost use Rattle.tape.specs.Layout.{kindOf, headIn, valueOf};
 ghost use Rattle.tape.specs.Written.{put};
 ghost use Rattle.names.specs.Spelling.{placeOf, lettersOf, valued, roleIn, roleNumber};
-ghost use Rattle.names.specs.Sweep.{headings, firsts, titles, leading, headingAt, headingOf, genericsGiven, inCall, given, standing, sortFits, shapeFits, nameStep, argumentStep, indexStep, calleeIn, callStep, blockStep, turn, sweep, mainIn, Tells, Finds, Says};
+ghost use Rattle.names.specs.Sweep.{headings, firsts, titles, leading, headingAt, headingOf, genericsGiven, inCall, given, standing, sortFits, shapeFits, nameStep, argumentStep, indexStep, calleeIn, countsFit, callStep, blockStep, turn, sweep, mainIn, Tells, Finds, Says, Small, Rows, stateOf, declareStep, after, called, argued, indexed, entered, begun, declares};
 
-// What is known where a word stands.
-pub struct State {
-    // The words of the names that its block declared so far, and how many.
-    pub scope: [u32; 48],
+// What is known where a word stands, beside the words of the declared names and the ends of loops.
+pub struct Spot {
+    // How many names its block declared so far.
     pub count: usize,
-    // For each declared index, where on the tape the loops over it end.
-    pub until: [usize; 48],
     // The index of the loop whose body is next; 48 for a block's body.
     pub index: usize,
     // Where among the headings the port stands that the next argument is for.
@@ -58,7 +56,7 @@ pub enum Turn {
 
 pub struct Step {
     pub turn: Turn,
-    pub state: State,
+    pub spot: Spot,
 }
 
 fn least(a: usize, b: usize) -> usize
@@ -243,12 +241,31 @@ fn is_index(declared: u32) -> bool
     role_of(declared) == 2
 }
 
+// A word of a row, and 0 past its end.
+fn word_at(words: &[u32], i: usize) -> u32
+    ensures { λ r. ⌜ r ≡ getD (now (words .entry)) i 0 ⌝ }
+{
+    if i < words.len() {
+        return words[i];
+    }
+    0
+}
+
+fn place_at(places: &[usize], i: usize) -> usize
+    ensures { λ r. ⌜ r ≡ getD (now (places .entry)) i 0 ⌝ }
+{
+    if i < places.len() {
+        return places[i];
+    }
+    0
+}
+
 // How many words of a kind stand first, from a place on.
-fn leading_words(words: &[u32; 3140], from: usize, kind: u32) -> usize
-    ensures { λ r. ⌜ (r ≡ leading kind (drop from (now (words .entry)))) × (r ≤ 3140) ⌝ }
+fn leading_words(words: &[u32], from: usize, kind: u32) -> usize
+    ensures { λ r. ⌜ (r ≡ leading kind (drop from (now (words .entry)))) × (r ≤ length (now (words .entry))) ⌝ }
 {
     let mut i: usize = from;
-    while i < 3140 {
+    while i < words.len() {
         if tape::kind_of(words[i]) != kind {
             return i - from;
         }
@@ -258,8 +275,8 @@ fn leading_words(words: &[u32; 3140], from: usize, kind: u32) -> usize
 }
 
 // The heading of a block whose name stands at a place among the headings.
-fn heading_at(heads: &[u32; 3140], at: usize) -> Heading
-    requires { ⌜ at ≤ 3140 ⌝ }
+fn heading_at(heads: &[u32], at: usize) -> Heading
+    requires { ⌜ (length (now heads) ≤ 3140) × (at ≤ 3140) ⌝ }
     ensures { λ r. ⌜ r ≡ headingAt (now (heads .entry)) at ⌝ }
 {
     let generics = leading_words(heads, at + 1, Kind::GENERIC);
@@ -274,8 +291,8 @@ fn heading_at(heads: &[u32; 3140], at: usize) -> Heading
 }
 
 // What a call wants: of a primitive by its kind, of a block by its number and 10.
-fn heading_of(heads: &[u32; 3140], firsts: &[usize; 64], callee: usize) -> Heading
-    requires { ⌜ callee < 74 ⌝ }
+fn heading_of(heads: &[u32], firsts: &[usize], callee: usize) -> Heading
+    requires { ⌜ Rows (now heads) (now firsts) ⌝ }
     ensures { λ r. ⌜ r ≡ headingOf (now (heads .entry)) (now (firsts .entry)) callee ⌝ }
 {
     if callee < 10 {
@@ -286,7 +303,7 @@ fn heading_of(heads: &[u32; 3140], firsts: &[usize; 64], callee: usize) -> Headi
             want: 0,
         };
     }
-    heading_at(heads, least(firsts[callee - 10], 3140))
+    heading_at(heads, place_at(firsts, callee - 10))
 }
 
 // How many generics the words from a place on give: the first words of expressions that stand in no bracket.
@@ -317,7 +334,7 @@ fn generics_given(tape: &[u32], from: usize, end: usize) -> usize
 
 // 1 for the first word of an expression, and 0 for the others.
 fn begins(word: u32) -> usize
-    ensures { λ r. ⌜ r ≡ pick (ltb (headIn word) 2) 1 0 ⌝ }
+    ensures { λ r. ⌜ (r ≡ pick (ltb (headIn word) 2) 1 0) × (r ≤ 1) ⌝ }
 {
     if tape::head_of(word) < 2 { 1 } else { 0 }
 }
@@ -343,7 +360,7 @@ fn in_call(kind: u32) -> bool
 }
 
 fn one_if(kind: u32, wanted: u32) -> usize
-    ensures { λ r. ⌜ r ≡ pick (eqb kind wanted) 1 0 ⌝ }
+    ensures { λ r. ⌜ (r ≡ pick (eqb kind wanted) 1 0) × (r ≤ 1) ⌝ }
 {
     if kind == wanted { 1 } else { 0 }
 }
@@ -367,17 +384,268 @@ fn arguments_given(tape: &[u32], from: usize, end: usize, wanted: u32) -> usize
 }
 
 // What becomes of a name in an expression at a place of the tape: the number of its declaration.
-fn in_expression(text: &[u8], s: State, at: usize, word: u32) -> Named
-    ensures { λ r. ⌜ Tells (nameStep (now (text .entry)) at s word) r ⌝ }
+fn in_expression(text: &[u8], scope: &[u32], count: usize, until: &[usize], at: usize, word: u32) -> Named
+    requires { ⌜ length (now scope) ≤ 48 ⌝ }
+    ensures { λ r. ⌜ Tells (nameStep (now (text .entry)) at (take count (now (scope .entry))) (now (until .entry)) word) r ⌝ }
 {
-    let scope = s.scope;
-    let until = s.until;
-    let found = find(text, &scope, s.count, word);
+    let found = find(text, scope, count, word);
     let Found::At(k) = found else {
         return Named::No(7, place_of(word));
     };
-    if stands(scope[k], at, until[k]) {
+    if stands(word_at(scope, k), at, place_at(until, k)) {
         return Named::Done(k);
     }
     Named::No(7, place_of(word))
+}
+
+// What becomes of a loop's index.
+fn as_index(text: &[u8], scope: &[u32], count: usize, word: u32) -> Named
+    requires { ⌜ length (now scope) ≤ 48 ⌝ }
+    ensures { λ r. ⌜ Tells (indexStep (now (text .entry)) (take count (now (scope .entry))) word) r ⌝ }
+{
+    let found = find(text, scope, count, word);
+    let Found::At(k) = found else {
+        return Named::No(7, place_of(word));
+    };
+    if is_index(word_at(scope, k)) {
+        return Named::Done(k);
+    }
+    Named::No(7, place_of(word))
+}
+
+// What becomes of an argument's name, where `port` is the word of the port that it is for.
+fn as_argument(text: &[u8], scope: &[u32], count: usize, port: u32, word: u32) -> Named
+    requires { ⌜ length (now scope) ≤ 48 ⌝ }
+    ensures { λ r. ⌜ Tells (argumentStep (now (text .entry)) (take count (now (scope .entry))) port word) r ⌝ }
+{
+    let found = find(text, scope, count, word);
+    let Found::At(k) = found else {
+        return Named::No(7, place_of(word));
+    };
+    let declared = word_at(scope, k);
+    let head = tape::head_of(word);
+    if !sort_fits(head, declared) {
+        return Named::No(7, place_of(word));
+    }
+    if shape_fits(head, declared, tape::head_of(port) == 0) {
+        return Named::Done(k);
+    }
+    Named::No(8, place_of(word))
+}
+
+// What a call's name stands for: a primitive by its kind, or else a block by its number and 10.
+fn callee(text: &[u8], titles: &[u32], blocks: usize, word: u32) -> Named
+    requires { ⌜ length (now titles) ≤ 64 ⌝ }
+    ensures { λ r. ⌜ Tells (calleeIn (now (text .entry)) (take blocks (now (titles .entry))) word) r ⌝ }
+{
+    let k = primitive(text, word);
+    if k < 10 {
+        return Named::Done(k);
+    }
+    let found = find(text, titles, blocks, word);
+    let Found::At(b) = found else {
+        return Named::No(7, place_of(word));
+    };
+    Named::Done(10 + b)
+}
+
+// Whether a call that begins before `from` gives what a heading wants, in number.
+fn counts_fit(tape: &[u32], from: usize, end: usize, h: Heading) -> bool
+    requires { ⌜ end ≤ length (now tape) ⌝ }
+    ensures { λ r. ⌜ r ≡ countsFit h (drop from (take end (now (tape .entry)))) ⌝ }
+{
+    if generics_given(tape, from, end) != h.generics {
+        return false;
+    }
+    if arguments_given(tape, from, end, Kind::INPUT) != h.inputs {
+        return false;
+    }
+    arguments_given(tape, from, end, Kind::OUTPUT) == h.outputs
+}
+
+// Whether a block's name is a primitive's, or that of one of the blocks before it.
+fn taken(text: &[u8], titles: &[u32], before: usize, word: u32) -> bool
+    ensures { λ r. ⌜ r ≡ isIn (lettersOf (now (text .entry)) word) (primitiveNames ++ map (lettersOf (now (text .entry))) (take before (now (titles .entry)))) ⌝ }
+{
+    if primitive(text, word) < 10 {
+        return true;
+    }
+    let found = find(text, titles, before, word);
+    if let Found::At(b) = found { true } else { false }
+}
+
+// Whether a name is declared already.
+fn declared_before(text: &[u8], scope: &[u32], count: usize, word: u32) -> bool
+    ensures { λ r. ⌜ r ≡ isIn (lettersOf (now (text .entry)) word) (map (lettersOf (now (text .entry))) (take count (now (scope .entry)))) ⌝ }
+{
+    let found = find(text, scope, count, word);
+    if let Found::At(b) = found { true } else { false }
+}
+
+// The loops over an index end at `end` at the earliest.
+fn enter(until: &mut [usize], index: usize, end: usize)
+    ensures { λ r. ⌜ now (until .exit) ≡ set (now (until .entry)) index (max (getD (now (until .entry)) index 0) end) ⌝ }
+{
+    if index < until.len() {
+        until[index] = greater(until[index], end);
+    }
+}
+
+fn record(scope: &mut [u32], count: usize, word: u32)
+    ensures { λ r. ⌜ now (scope .exit) ≡ set (now (scope .entry)) count word ⌝ }
+{
+    if count < scope.len() {
+        scope[count] = word;
+    }
+}
+
+fn is_argument(kind: u32) -> bool
+    ensures { λ r. ⌜ r ≡ (eqb kind 4 || eqb kind 5) ⌝ }
+{
+    if kind == Kind::INPUT {
+        return true;
+    }
+    kind == Kind::OUTPUT
+}
+
+fn on_name(text: &[u8], scope: &[u32], until: &[usize], at: usize, word: u32, spot: Spot) -> Step
+    requires { ⌜ length (now scope) ≤ 48 ⌝ }
+    ensures { λ r. ⌜ Says (after (nameStep (now (text .entry)) at (take (spot .count) (now (scope .entry))) (now (until .entry)) word) (λ k. (valued word k, stateOf (now (scope .entry)) (now (until .entry)) spot))) (r .turn) (stateOf (now (scope .entry)) (now (until .entry)) (r .spot)) ⌝ }
+{
+    let n = in_expression(text, scope, spot.count, until, at, word);
+    match n {
+        Named::Done(k) => Step {
+            turn: Turn::Word(with_value(word, k)),
+            spot: spot,
+        },
+        Named::No(no, p) => Step {
+            turn: Turn::Halt(no, p),
+            spot: spot,
+        },
+    }
+}
+
+fn on_argument(text: &[u8], scope: &[u32], port: u32, word: u32, spot: Spot) -> Step
+    requires { ⌜ length (now scope) ≤ 48 ⌝ }
+    ensures { λ r. ⌜ ((until : List ℕ) → Says (after (argumentStep (now (text .entry)) (take (spot .count) (now (scope .entry))) port word) (λ k. (argued (stateOf (now (scope .entry)) until spot) word k))) (r .turn) (stateOf (now (scope .entry)) until (r .spot))) ⌝ }
+{
+    let n = as_argument(text, scope, spot.count, port, word);
+    match n {
+        Named::Done(k) => Step {
+            turn: Turn::Word(with_value(word, k)),
+            spot: Spot {
+                count: spot.count,
+                index: spot.index,
+                want: least(spot.want, 3140) + 1,
+                blocks: spot.blocks,
+            },
+        },
+        Named::No(no, p) => Step {
+            turn: Turn::Halt(no, p),
+            spot: spot,
+        },
+    }
+}
+
+fn on_index(text: &[u8], scope: &[u32], word: u32, spot: Spot) -> Step
+    requires { ⌜ length (now scope) ≤ 48 ⌝ }
+    ensures { λ r. ⌜ ((until : List ℕ) → Says (after (indexStep (now (text .entry)) (take (spot .count) (now (scope .entry))) word) (λ k. (indexed (stateOf (now (scope .entry)) until spot) word k))) (r .turn) (stateOf (now (scope .entry)) until (r .spot))) ⌝ }
+{
+    let n = as_index(text, scope, spot.count, word);
+    match n {
+        Named::Done(k) => Step {
+            turn: Turn::Word(with_value(word, k)),
+            spot: Spot {
+                count: spot.count,
+                index: k,
+                want: spot.want,
+                blocks: spot.blocks,
+            },
+        },
+        Named::No(no, p) => Step {
+            turn: Turn::Halt(no, p),
+            spot: spot,
+        },
+    }
+}
+
+// What a call's name stands for, if its counts are right; `from` is where its words begin.
+fn as_callee(text: &[u8], heads: &[u32], firsts: &[usize], titles: &[u32], blocks: usize, tape: &[u32], from: usize, end: usize, word: u32) -> Named
+    requires { ⌜ Rows (now heads) (now firsts) × (length (now titles) ≤ 64) × (end ≤ length (now tape)) ⌝ }
+    ensures { λ r. ⌜ Tells (callStep (now (text .entry)) (now (heads .entry)) (now (firsts .entry)) (take blocks (now (titles .entry))) word (drop from (take end (now (tape .entry))))) r ⌝ }
+{
+    let n = callee(text, titles, blocks, word);
+    let Named::Done(c) = n else {
+        return n;
+    };
+    if counts_fit(tape, from, end, heading_of(heads, firsts, c)) {
+        return Named::Done(c);
+    }
+    Named::No(8, place_of(word))
+}
+
+fn on_callee(heads: &[u32], firsts: &[usize], n: Named, word: u32, spot: Spot) -> Step
+    requires { ⌜ Rows (now heads) (now firsts) × Small n ⌝ }
+    ensures { λ r. ⌜ ((o : Out ℕ) (scope until : List ℕ) → Tells o n → Says (after o (λ c. (called (headingOf (now (heads .entry)) (now (firsts .entry)) c) (stateOf scope until spot) word c))) (r .turn) (stateOf scope until (r .spot))) ⌝ }
+{
+    match n {
+        Named::Done(c) => {
+            let h = heading_of(heads, firsts, c);
+            Step {
+                turn: Turn::Word(with_value(word, place_of(word) * 128 + c)),
+                spot: Spot {
+                    count: spot.count,
+                    index: spot.index,
+                    want: h.want,
+                    blocks: spot.blocks,
+                },
+            }
+        }
+        Named::No(no, p) => Step {
+            turn: Turn::Halt(no, p),
+            spot: spot,
+        },
+    }
+}
+
+fn on_block(text: &[u8], titles: &[u32], word: u32, spot: Spot) -> Step
+    ensures { λ r. ⌜ ((scope until N : List ℕ) → take (spot .blocks) N ≡ take (spot .blocks) (now (titles .entry)) → Says (after (blockStep (now (text .entry)) (take (spot .blocks) N) word) (λ _. (begun (stateOf scope until spot) word))) (r .turn) (stateOf scope until (r .spot))) ⌝ }
+{
+    if taken(text, titles, spot.blocks, word) {
+        return Step {
+            turn: Turn::Halt(6, place_of(word)),
+            spot: spot,
+        };
+    }
+    Step {
+        turn: Turn::Word(word),
+        spot: Spot {
+            count: 0,
+            index: 48,
+            want: spot.want,
+            blocks: least(spot.blocks, 64) + 1,
+        },
+    }
+}
+
+fn on_declared(text: &[u8], scope: &mut [u32], word: u32, spot: Spot) -> Step
+    ensures { λ r. ⌜ ((until : List ℕ) → Says (after (declareStep (now (text .entry)) (take (spot .count) (now (scope .entry))) word) (λ _. (declares (stateOf (now (scope .entry)) until spot) word))) (r .turn) (stateOf (now (scope .exit)) until (r .spot))) ⌝ }
+    ensures { λ r. ⌜ length (now (scope .exit)) ≡ length (now (scope .entry)) ⌝ }
+{
+    if declared_before(text, scope, spot.count, word) {
+        return Step {
+            turn: Turn::Halt(6, place_of(word)),
+            spot: spot,
+        };
+    }
+    record(scope, spot.count, word);
+    Step {
+        turn: Turn::Word(word),
+        spot: Spot {
+            count: least(spot.count, 48) + 1,
+            index: spot.index,
+            want: spot.want,
+            blocks: spot.blocks,
+        },
+    }
 }

@@ -28,7 +28,7 @@ each (suc (suc (suc (suc (suc (suc (suc (suc (suc (suc k)))))))))) h = absurd (o
 
 returns : tie.Need-returns
 unfolding numbers
-returns c = each _ (c .before .pre)
+returns c = each _ (c .pre)
 
 pub inputs-of-spec : {M : Type 1} → statement M
 inputs-of-spec = tie.close (tie.spec (λ c. search needs) (λ c. search needs) returns)
