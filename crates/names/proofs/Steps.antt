@@ -1,12 +1,13 @@
 -- Laws of one word: what finding its name gives. Assumes nothing.
-use mathlib.Core.Path.{_≡_, refl, sym, ap, _∙_, subst}
+use mathlib.Core.Path.{_≡_, refl, sym, ap, _∙_, subst, subst⁻¹}
 use mathlib.Core.Bool.{Bool, true, false, not, _&&_, _||_}
 use mathlib.Core.List.{List, [], _∷_, _++_, map}
-use Prim.Native.Nat.{ℕ, zero, suc, _+_, _-_, _<_, _≤_}
+use Prim.Native.Nat.{ℕ, zero, suc, _+_, _-_, _<_, _≤_, min}
+use native.Mathlib.Decide.{decLe}
 use native.Mathlib.Omega.{arith}
 use lib.Dec.{eqb, ltb}
 use lib.ListN.{length, getD, take, drop, length-map, length-take, length-append}
-use lib.Seq.{getD-take}
+use lib.Seq.{getD-take, take-take, take-all}
 use borrow.Author.Tests.{lt-ltb, le-ltb, ltb-true, ltb-false}
 use Rattle.rules.specs.Text.{pick, same, indexOf, isIn}
 use Rattle.rules.specs.Primitives.{primitiveNames}
@@ -16,7 +17,10 @@ use Rattle.tape.specs.Layout.{headIn}
 use Rattle.names.specs.declared.Found.{Found}
 use Rattle.names.specs.declared.Found.the-variants.{At, Nothing}
 use Rattle.names.specs.Spelling.{placeOf, lettersOf, nameOf, roleIn, entryOf, scopeIn}
-use Rattle.names.specs.Sweep.{standing, sortFits, shapeFits, nameStep, indexStep, argumentStep, calleeIn, declareStep, after, Finds}
+use Rattle.names.specs.Sweep.{standing, sortFits, shapeFits, nameStep, indexStep, argumentStep, calleeIn, callStep, countsFit, headingOf, blockStep, declareStep, after, State, Finds, Tells, Small}
+use Rattle.names.specs.declared.Heading.{Heading}
+use Rattle.names.specs.declared.Named.{Named}
+use Rattle.names.specs.declared.Named.the-variants.{Done, No}
 
 pub spelled-alike : (s ws : List ℕ) → spellings (scopeIn s ws) ≡ map (lettersOf s) ws
 spelled-alike s [] = refl
@@ -197,3 +201,63 @@ then-ok f e = rw e
 pub then-no : {A B : Type 0} {o : Out A} (f : A → B) {n p : ℕ} → o ≡ refuse n p → after o f ≡ refuse n p
 unfolding after
 then-no f e = rw e
+
+pub then-state : {o : Out ℕ} (f : ℕ → ℕ × State) {k v : ℕ} {S : State} → o ≡ ok k → v ≡ f k .0 → S ≡ f k .1 → after o f ≡ ok (v, S)
+unfolding after
+then-state f e a b = rw (e, a, b)
+
+pub tells-done : (o : Out ℕ) (n : Named) {k : ℕ} → Tells o n → n ≡ Done k → (o ≡ ok k) × (k < 128)
+tells-done o n h e = subst (λ n. Tells o n) e h
+
+pub tells-no : (o : Out ℕ) (n : Named) {m p : ℕ} → Tells o n → n ≡ No m p → o ≡ refuse m p
+tells-no o n h e = subst (λ n. Tells o n) e h
+
+pub is-small : (o : Out ℕ) (n : Named) → Tells o n → Small n
+is-small o (Done k) h = h .1
+is-small o (No n p) h = tt
+
+pub small-done : (n : Named) {k : ℕ} → Small n → n ≡ Done k → k < 128
+small-done n h e = subst (λ n. Small n) e h
+
+-- ---- a call's counts
+
+module _ (s H F N : List ℕ) (w : ℕ) (ws : List ℕ) where
+  pub call-no : (n : Named) {m p : ℕ} → Tells (calleeIn s N w) n → n ≡ No m p → Tells (callStep s H F N w ws) n
+  unfolding callStep _>>=_
+  call-no n {m} {p} h e = let z = tells-no (calleeIn s N w) n h e in subst⁻¹ (λ n. Tells (callStep s H F N w ws) n) e (rw z refl)
+
+  module _ (n : Named) {c : ℕ} (hd : Heading) (b : Bool) (h : Tells (calleeIn s N w) n) (e : n ≡ Done c) (f : hd ≡ headingOf H F c) (g : b ≡ countsFit hd ws) where
+    pub call-fits : b ≡ true → Tells (callStep s H F N w ws) (Done c)
+    unfolding callStep _>>=_ at need
+    call-fits t = let z = tells-done (calleeIn s N w) n h e in (rw (z .0, ← f, ← g, t), z .1)
+
+    pub call-bars : (q : ℕ) → b ≡ false → q ≡ placeOf w → callStep s H F N w ws ≡ refuse 8 q
+    unfolding callStep _>>=_ at need
+    call-bars q t l = let z = tells-done (calleeIn s N w) n h e in rw (z .0, ← f, ← g, t, l)
+
+-- ---- blocks and declarations
+
+take-min : (b k : ℕ) (t : List ℕ) → take b (take k t) ≡ take (min b k) t
+take-min b k t = go (decLe b k)
+  where
+    go : Dec (b ≤ k) → take b (take k t) ≡ take (min b k) t
+    go (yes h) = let e : min b k ≡ b = omega arith in rw e (take-take b k t h)
+    go (no h) = let e : min b k ≡ k = omega arith in rw e (take-all b (take k t) (simp length-take (omega arith)))
+
+module _ (s t : List ℕ) (b k m w : ℕ) (e : m ≡ min b k) (r : Bool) (h : r ≡ isIn (lettersOf s w) (primitiveNames ++ map (lettersOf s) (take m t))) where
+  pub block-bars : {B : Type 0} (f : Unit {0} → B) (q : ℕ) → r ≡ true → q ≡ placeOf w → after (blockStep s (take b (take k t)) w) f ≡ refuse 6 q
+  unfolding blockStep at need after
+  block-bars f q g l = rw (take-min b k t, ← e, ← h, g, l)
+
+  pub block-begins : {B : Type 0} (f : Unit {0} → B) → r ≡ false → after (blockStep s (take b (take k t)) w) f ≡ ok (f tt)
+  unfolding blockStep at need after
+  block-begins f g = rw (take-min b k t, ← e, ← h, g)
+
+module _ (s ws : List ℕ) (w : ℕ) (r : Bool) (h : r ≡ isIn (lettersOf s w) (map (lettersOf s) ws)) where
+  pub declare-bars : {B : Type 0} (f : Unit {0} → B) (q : ℕ) → r ≡ true → q ≡ placeOf w → after (declareStep s ws w) f ≡ refuse 6 q
+  unfolding declareStep once at need after
+  declare-bars f q g l = rw (spelled-alike s ws, ← h, g, l)
+
+  pub declare-once : {B : Type 0} (f : Unit {0} → B) → r ≡ false → after (declareStep s ws w) f ≡ ok (f tt)
+  unfolding declareStep once at need after
+  declare-once f g = rw (spelled-alike s ws, ← h, g)

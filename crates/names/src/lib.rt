@@ -491,7 +491,8 @@ fn enter(until: &mut [usize], index: usize, end: usize)
     }
 }
 
-fn record(scope: &mut [u32], count: usize, word: u32)
+// The word of a declared name is kept.
+fn keep(scope: &mut [u32], count: usize, word: u32)
     ensures { λ r. ⌜ now (scope .exit) ≡ set (now (scope .entry)) count word ⌝ }
 {
     if count < scope.len() {
@@ -608,10 +609,10 @@ fn on_callee(heads: &[u32], firsts: &[usize], n: Named, word: u32, spot: Spot) -
     }
 }
 
-fn on_block(text: &[u8], titles: &[u32], word: u32, spot: Spot) -> Step
-    ensures { λ r. ⌜ ((scope until N : List ℕ) → take (spot .blocks) N ≡ take (spot .blocks) (now (titles .entry)) → Says (after (blockStep (now (text .entry)) (take (spot .blocks) N) word) (λ _. (begun (stateOf scope until spot) word))) (r .turn) (stateOf scope until (r .spot))) ⌝ }
+fn on_block(text: &[u8], titles: &[u32], known: usize, word: u32, spot: Spot) -> Step
+    ensures { λ r. ⌜ ((scope until : List ℕ) → Says (after (blockStep (now (text .entry)) (take (spot .blocks) (take known (now (titles .entry)))) word) (λ _. (begun (stateOf scope until spot) word))) (r .turn) (stateOf scope until (r .spot))) ⌝ }
 {
-    if taken(text, titles, spot.blocks, word) {
+    if taken(text, titles, least(spot.blocks, known), word) {
         return Step {
             turn: Turn::Halt(6, place_of(word)),
             spot: spot,
@@ -638,7 +639,7 @@ fn on_declared(text: &[u8], scope: &mut [u32], word: u32, spot: Spot) -> Step
             spot: spot,
         };
     }
-    record(scope, spot.count, word);
+    keep(scope, spot.count, word);
     Step {
         turn: Turn::Word(word),
         spot: Spot {
@@ -647,5 +648,45 @@ fn on_declared(text: &[u8], scope: &mut [u32], word: u32, spot: Spot) -> Step
             want: spot.want,
             blocks: spot.blocks,
         },
+    }
+}
+
+// One word of the tape, at a place before `end`.
+fn take_word(text: &[u8], heads: &[u32], firsts: &[usize], titles: &[u32], known: usize, tape: &[u32], at: usize, end: usize, scope: &mut [u32], until: &mut [usize], spot: Spot) -> Step
+    requires { ⌜ Rows (now heads) (now firsts) × (length (now titles) ≤ 64) × (end ≤ length (now tape)) × (at < end) × (length (now scope) ≤ 48) ⌝ }
+    ensures { λ r. ⌜ Says (turn (now (text .entry)) (now (heads .entry)) (now (firsts .entry)) (take known (now (titles .entry))) at (stateOf (now (scope .entry)) (now (until .entry)) spot) (getD (now (tape .entry)) at 0) (drop (at + 1) (take end (now (tape .entry))))) (r .turn) (stateOf (now (scope .exit)) (now (until .exit)) (r .spot)) ⌝ }
+    ensures { λ r. ⌜ length (now (scope .exit)) ≡ length (now (scope .entry)) ⌝ }
+{
+    let word = tape[at];
+    let kind = tape::kind_of(word);
+    if kind == Kind::NAME {
+        return on_name(text, scope, until, at, word, spot);
+    }
+    if kind == Kind::CALL {
+        let n = as_callee(text, heads, firsts, titles, known, tape, at + 1, end, word);
+        return on_callee(heads, firsts, n, word, spot);
+    }
+    if is_argument(kind) {
+        return on_argument(text, scope, word_at(heads, spot.want), word, spot);
+    }
+    if kind == Kind::INDEX {
+        return on_index(text, scope, word, spot);
+    }
+    if kind == Kind::BODY {
+        enter(until, spot.index, at + 1 + tape::value_of(word));
+        return Step {
+            turn: Turn::Word(word),
+            spot: spot,
+        };
+    }
+    if kind == Kind::BLOCK {
+        return on_block(text, titles, known, word, spot);
+    }
+    if Kind::BLOCK < kind {
+        return on_declared(text, scope, word, spot);
+    }
+    Step {
+        turn: Turn::Word(word),
+        spot: spot,
     }
 }

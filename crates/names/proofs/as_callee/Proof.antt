@@ -1,59 +1,28 @@
+-- `names::as_callee` meets its contract. Assumes nothing.
+use Rattle.names.proofs.Steps.{call-no, call-fits, call-bars}
 use borrow.Author.Needs.{needs}
 use Rattle.names.proofs.as_callee.Statement.{statement}
 use Rattle.names.proofs.as_callee.Tie as tie
-use Rattle.names.proofs.as_callee.Reads as reads
-use Rattle.names.proofs.as_callee.Lts as lts
-use Rattle.names.proofs.callee.Reads as callee-reads
-use Rattle.names.proofs.counts_fit.Reads as counts-fit-reads
-use Rattle.names.proofs.heading_of.Reads as heading-of-reads
-use Rattle.names.proofs.place_of.Reads as place-of-reads
 
--- src/lib.rt:577:9
-callee-requires : tie.Need-callee-requires
-callee-requires c κs = search needs
-
--- src/lib.rt:578:21
-enum-known-n : tie.Need-enum-known-n
-enum-known-n c = search needs
-
--- src/lib.rt:579:9
-enum-told : tie.Need-enum-told
-enum-told c = search needs
-
--- src/lib.rt:579:9
 returns : tie.Need-returns
-returns c = ?
+returns c = call-no _ _ _ _ _ _ _ (c .before .before .callee .ensures) (c .enum-told .given .1)
 
--- src/lib.rt:581:36
-heading-of-requires : tie.Need-heading-of-requires
-heading-of-requires c κs = search needs
-
--- src/lib.rt:581:8
-counts-fit-requires : tie.Need-counts-fit-requires
-counts-fit-requires c κs = search needs
-
--- src/lib.rt:582:9
 returns-2 : tie.Need-returns-2
-returns-2 c = ?
+returns-2 c = call-fits _ _ _ _ _ _ _ _ _ (c .before .before .before .before .before .before .callee .ensures) (c .before .before .before .before .n .given .1) (c .before .before .heading-of .ensures) (c .before .counts-fit .ensures) (c .if1 .taken)
 
--- src/lib.rt:584:18
-place-of-requires : tie.Need-place-of-requires
-place-of-requires c κs = search needs
-
--- src/lib.rt:573:1
 returns-3 : tie.Need-returns-3
-returns-3 c = ?
+returns-3 c = call-bars _ _ _ _ _ _ _ _ _ (c .before .before .before .before .before .before .before .callee .ensures) (c .before .before .before .before .before .n .given .1) (c .before .before .before .heading-of .ensures) (c .before .before .counts-fit .ensures) _ (c .before .if1 .left) (c .place-of .ensures)
 
 pub as-callee-spec : {M : Type 1} → statement M
 as-callee-spec =
     tie.close
     (tie.spec
-    callee-requires
-    enum-known-n
-    enum-told
+    (λ c κs. search needs)
+    (λ c. search needs)
+    (λ c. search needs)
     returns
-    heading-of-requires
-    counts-fit-requires
+    (λ c κs. search needs)
+    (λ c κs. search needs)
     returns-2
-    place-of-requires
+    (λ c κs. search needs)
     returns-3)

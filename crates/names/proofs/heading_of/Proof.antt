@@ -1,32 +1,20 @@
+-- `names::heading_of` meets its contract. Assumes nothing.
+use native.Mathlib.Omega.{arith}
+use Prim.Native.Nat.{_-_}
+use Rattle.names.proofs.Counts.{gate-heading, block-heading}
 use borrow.Author.Needs.{needs}
 use Rattle.names.proofs.heading_of.Statement.{statement}
 use Rattle.names.proofs.heading_of.Tie as tie
-use Rattle.names.proofs.heading_of.Reads as reads
-use Rattle.names.proofs.heading_of.Lts as lts
-use Rattle.names.proofs.heading_at.Reads as heading-at-reads
-use Rattle.names.proofs.inputs_of.Reads as inputs-of-reads
-use Rattle.names.proofs.place_at.Reads as place-at-reads
 
--- src/lib.rt:301:21
-inputs-of-requires : tie.Need-inputs-of-requires
-inputs-of-requires c κs = search needs
-
--- src/lib.rt:299:9
 returns : tie.Need-returns
-returns c = ?
+returns c = gate-heading _ _ _ _ (c .before .if1 .taken) (c .inputs-of .ensures)
 
--- src/lib.rt:306:23
-place-at-requires : tie.Need-place-at-requires
-place-at-requires c κs = search needs
-
--- src/lib.rt:306:5
 heading-at-requires : tie.Need-heading-at-requires
-heading-at-requires c κs = ?
+heading-at-requires c κs = (c .before .before .before .before .pre .few, omega (arith, c .place-at .ensures, c .before .before .before .before .pre .there (c .before .before .before .before .args .callee - 10)))
 
--- src/lib.rt:294:1
 returns-2 : tie.Need-returns-2
-returns-2 c = ?
+returns-2 c = block-heading _ _ _ _ _ (c .before .before .if1 .left) (c .before .place-at .ensures) (c .heading-at .ensures)
 
 pub heading-of-spec : {M : Type 1} → statement M
 heading-of-spec =
-    tie.close (tie.spec inputs-of-requires returns place-at-requires heading-at-requires returns-2)
+    tie.close (tie.spec (λ c κs. search needs) returns (λ c κs. search needs) heading-at-requires returns-2)
