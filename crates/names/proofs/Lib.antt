@@ -1,3 +1,4 @@
 pub mod Leaves
 pub mod Counts
 pub mod Steps
+pub mod Turns

@@ -159,6 +159,10 @@ unfoldable pub after : {A B : Type 0} → Out A → (A → B) → Out B
 after (ok a) f = ok (f a)
 after (refuse n p) f = refuse n p
 
+-- words before those of an outcome
+abbrev pub onto : List ℕ → Out (List ℕ) → Out (List ℕ)
+onto ws o = after o (λ us. ws ++ us)
+
 -- ---- a word and the state after it
 
 -- what is known where a word stands
@@ -240,3 +244,12 @@ Says o (Halt n p) S = o ≡ refuse n p
 
 abbrev pub stateOf : List ℕ → List ℕ → Spot → State
 stateOf scope until p = record { scope = scope; count = p .count; until = until; index = p .index; want = p .want; blocks = p .blocks }
+
+-- before the first word
+abbrev pub start : List ℕ → List ℕ → State
+start scope until = record { scope = scope; count = 0; until = until; index = 48; want = 0; blocks = 0 }
+
+-- what a sweep over the first `end` words of the tape t leaves, u
+abbrev pub Swept : Out (List ℕ) → ℕ → List ℕ → List ℕ → Named → Type 0
+Swept o end t u (Done m) = (o ≡ ok (take end u)) × (drop end u ≡ drop end t) × (length u ≡ length t)
+Swept o end t u (No n p) = o ≡ refuse n p

@@ -15,7 +15,7 @@ ghost use Rattle.rules.specs.Primitives.{inputsOf, primitiveNames};
 ghost use Rattle.tape.specs.Layout.{kindOf, headIn, valueOf};
 ghost use Rattle.tape.specs.Written.{put};
 ghost use Rattle.names.specs.Spelling.{placeOf, lettersOf, valued, roleIn, roleNumber};
-ghost use Rattle.names.specs.Sweep.{headings, firsts, titles, leading, headingAt, headingOf, genericsGiven, inCall, given, standing, sortFits, shapeFits, nameStep, argumentStep, indexStep, calleeIn, countsFit, callStep, blockStep, turn, sweep, mainIn, Tells, Finds, Says, Small, Rows, stateOf, declareStep, after, called, argued, indexed, entered, begun, declares};
+ghost use Rattle.names.specs.Sweep.{headings, firsts, titles, leading, headingAt, headingOf, genericsGiven, inCall, given, standing, sortFits, shapeFits, nameStep, argumentStep, indexStep, calleeIn, countsFit, callStep, blockStep, turn, sweep, mainIn, Tells, Finds, Says, Small, Swept, Rows, stateOf, start, declareStep, after, called, argued, indexed, entered, begun, declares};
 
 // What is known where a word stands, beside the words of the declared names and the ends of loops.
 pub struct Spot {
@@ -689,4 +689,33 @@ fn take_word(text: &[u8], heads: &[u32], firsts: &[usize], titles: &[u32], known
         turn: Turn::Word(word),
         spot: spot,
     }
+}
+
+// Sweeps over the first `end` words of the tape.
+fn sweep_words(text: &[u8], heads: &[u32], firsts: &[usize], titles: &[u32], known: usize, tape: &mut [u32], end: usize, scope: &mut [u32], until: &mut [usize]) -> Named
+    requires { ⌜ Rows (now heads) (now firsts) × (length (now titles) ≤ 64) × (end ≤ length (now tape)) × (length (now scope) ≤ 48) ⌝ }
+    ensures { λ r. ⌜ Swept (sweep (now (text .entry)) (now (heads .entry)) (now (firsts .entry)) (take known (now (titles .entry))) 0 (start (now (scope .entry)) (now (until .entry))) (take end (now (tape .entry)))) end (now (tape .entry)) (now (tape .exit)) r ⌝ }
+{
+    let mut spot = Spot {
+        count: 0,
+        index: 48,
+        want: 0,
+        blocks: 0,
+    };
+    let mut at: usize = 0;
+    while at < end {
+        let r = take_word(text, heads, firsts, titles, known, tape, at, end, scope, until, spot);
+        let t = r.turn;
+        match t {
+            Turn::Word(word) => {
+                tape[at] = word;
+            }
+            Turn::Halt(n, p) => {
+                return Named::No(n, p);
+            }
+        }
+        spot = r.spot;
+        at += 1;
+    }
+    Named::Done(0)
 }

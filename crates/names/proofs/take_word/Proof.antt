@@ -1,177 +1,73 @@
+-- `names::take_word` meets its contract: at each `return` the tests that led there say which word it is. Assumes nothing.
+use mathlib.Core.Path.{_≡_, refl, ap, _∙_}
+use Prim.Native.Nat.{_+_}
+use lib.ListN.{length, getD, take, drop, length-set}
+use Rattle.names.specs.Sweep.{stateOf, callStep}
+use Rattle.names.proofs.Steps.{is-small}
+use Rattle.names.proofs.Turns.{says-as, turn-name, turn-call, turn-argument, turn-index, turn-body, turn-block, turn-declared, turn-other}
 use borrow.Author.Needs.{needs}
 use Rattle.names.proofs.take_word.Statement.{statement}
 use Rattle.names.proofs.take_word.Tie as tie
-use Rattle.names.proofs.take_word.Reads as reads
-use Rattle.names.proofs.take_word.Lts as lts
-use Rattle.names.proofs.as_callee.Reads as as-callee-reads
-use Rattle.names.proofs.enter.Reads as enter-reads
-use Rattle.names.proofs.is_argument.Reads as is-argument-reads
-use Rattle.names.proofs.on_argument.Reads as on-argument-reads
-use Rattle.names.proofs.on_block.Reads as on-block-reads
-use Rattle.names.proofs.on_callee.Reads as on-callee-reads
-use Rattle.names.proofs.on_declared.Reads as on-declared-reads
-use Rattle.names.proofs.on_index.Reads as on-index-reads
-use Rattle.names.proofs.on_name.Reads as on-name-reads
-use Rattle.names.proofs.word_at.Reads as word-at-reads
-use Rattle.tape.proofs.kind_of.Reads as kind-of-reads
-use Rattle.tape.proofs.value_of.Reads as value-of-reads
 
--- src/lib.rt:660:16
-mul-word : tie.Need-mul-word
-mul-word c = search needs
-
--- src/lib.rt:660:16
-shared-slice-read-word : tie.Need-shared-slice-read-word
-shared-slice-read-word c = search needs
-
--- src/lib.rt:661:9
-kind-of-requires : tie.Need-kind-of-requires
-kind-of-requires c κs = search needs
-
--- src/lib.rt:663:9
-on-name-requires : tie.Need-on-name-requires
-on-name-requires c κs = search needs
-
--- src/lib.rt:663:9
-same-length : tie.Need-same-length
-same-length c = search needs
-
--- src/lib.rt:663:9
-same-length-2 : tie.Need-same-length-2
-same-length-2 c = search needs
-
--- src/lib.rt:663:9
 returns : tie.Need-returns
-returns c = ?
+returns c = (says-as (c .on-name .result .turn) (stateOf (c .before .before .before .before .before .before .before .before .before .before .before .before .before .args .scope .now) (c .before .before .before .before .before .before .before .before .before .before .before .before .before .args .until .now) (c .on-name .result .spot)) (turn-name (c .before .before .before .before .before .before .before .before .before .before .before .before .before .args .text .now) (c .before .before .before .before .before .before .before .before .before .before .before .before .before .args .heads .now) (c .before .before .before .before .before .before .before .before .before .before .before .before .before .args .firsts .now) (take (c .before .before .before .before .before .before .before .before .before .before .before .before .before .args .known) (c .before .before .before .before .before .before .before .before .before .before .before .before .before .args .titles .now)) (c .before .before .before .before .before .before .before .before .before .before .before .before .before .args .at) (stateOf (c .before .before .before .before .before .before .before .before .before .before .before .before .before .args .scope .now) (c .before .before .before .before .before .before .before .before .before .before .before .before .before .args .until .now) (c .before .before .before .before .before .before .before .before .before .before .before .before .before .args .spot)) (getD (c .before .before .before .before .before .before .before .before .before .before .before .before .before .args .tape .now) (c .before .before .before .before .before .before .before .before .before .before .before .before .before .args .at) 0) (drop (c .before .before .before .before .before .before .before .before .before .before .before .before .before .args .at + 1) (take (c .before .before .before .before .before .before .before .before .before .before .before .before .before .args .end) (c .before .before .before .before .before .before .before .before .before .before .before .before .before .args .tape .now))) _ (c .before .before .before .before .kind-of .ensures) (c .before .before .before .if1 .taken)) (c .on-name .ensures), refl)
 
--- src/lib.rt:666:69
-add-as-callee : tie.Need-add-as-callee
-add-as-callee c = search needs
-
--- src/lib.rt:666:13
-as-callee-requires : tie.Need-as-callee-requires
-as-callee-requires c κs = search needs
-
--- src/lib.rt:667:9
 on-callee-requires : tie.Need-on-callee-requires
-on-callee-requires c κs = ?
+on-callee-requires c κs = (c .before .before .before .before .before .before .before .before .before .before .before .before .pre .0, is-small (callStep (c .before .before .before .before .before .before .before .before .before .before .before .before .args .text .now) (c .before .before .before .before .before .before .before .before .before .before .before .before .args .heads .now) (c .before .before .before .before .before .before .before .before .before .before .before .before .args .firsts .now) (take (c .before .before .before .before .before .before .before .before .before .before .before .before .args .known) (c .before .before .before .before .before .before .before .before .before .before .before .before .args .titles .now)) (getD (c .before .before .before .before .before .before .before .before .before .before .before .before .args .tape .now) (c .before .before .before .before .before .before .before .before .before .before .before .before .args .at) 0) (drop (c .before .before .before .before .before .before .before .before .before .before .before .before .args .at + 1) (take (c .before .before .before .before .before .before .before .before .before .before .before .before .args .end) (c .before .before .before .before .before .before .before .before .before .before .before .before .args .tape .now)))) (c .as-callee .result) (c .as-callee .ensures))
 
--- src/lib.rt:667:9
 returns-2 : tie.Need-returns-2
-returns-2 c = ?
+returns-2 c = (says-as (c .on-callee .result .turn) (stateOf (c .before .before .before .before .before .before .before .before .before .before .before .before .before .args .scope .now) (c .before .before .before .before .before .before .before .before .before .before .before .before .before .args .until .now) (c .on-callee .result .spot)) (turn-call (c .before .before .before .before .before .before .before .before .before .before .before .before .before .args .text .now) (c .before .before .before .before .before .before .before .before .before .before .before .before .before .args .heads .now) (c .before .before .before .before .before .before .before .before .before .before .before .before .before .args .firsts .now) (take (c .before .before .before .before .before .before .before .before .before .before .before .before .before .args .known) (c .before .before .before .before .before .before .before .before .before .before .before .before .before .args .titles .now)) (c .before .before .before .before .before .before .before .before .before .before .before .before .before .args .at) (stateOf (c .before .before .before .before .before .before .before .before .before .before .before .before .before .args .scope .now) (c .before .before .before .before .before .before .before .before .before .before .before .before .before .args .until .now) (c .before .before .before .before .before .before .before .before .before .before .before .before .before .args .spot)) (getD (c .before .before .before .before .before .before .before .before .before .before .before .before .before .args .tape .now) (c .before .before .before .before .before .before .before .before .before .before .before .before .before .args .at) 0) (drop (c .before .before .before .before .before .before .before .before .before .before .before .before .before .args .at + 1) (take (c .before .before .before .before .before .before .before .before .before .before .before .before .before .args .end) (c .before .before .before .before .before .before .before .before .before .before .before .before .before .args .tape .now))) _ (c .before .before .before .before .kind-of .ensures) (c .before .before .if2 .taken)) (c .on-callee .ensures (callStep (c .before .before .before .before .before .before .before .before .before .before .before .before .before .args .text .now) (c .before .before .before .before .before .before .before .before .before .before .before .before .before .args .heads .now) (c .before .before .before .before .before .before .before .before .before .before .before .before .before .args .firsts .now) (take (c .before .before .before .before .before .before .before .before .before .before .before .before .before .args .known) (c .before .before .before .before .before .before .before .before .before .before .before .before .before .args .titles .now)) (getD (c .before .before .before .before .before .before .before .before .before .before .before .before .before .args .tape .now) (c .before .before .before .before .before .before .before .before .before .before .before .before .before .args .at) 0) (drop (c .before .before .before .before .before .before .before .before .before .before .before .before .before .args .at + 1) (take (c .before .before .before .before .before .before .before .before .before .before .before .before .before .args .end) (c .before .before .before .before .before .before .before .before .before .before .before .before .before .args .tape .now)))) (c .before .before .before .before .before .before .before .before .before .before .before .before .before .args .scope .now) (c .before .before .before .before .before .before .before .before .before .before .before .before .before .args .until .now) (c .before .as-callee .ensures)), refl)
 
--- src/lib.rt:669:8
-is-argument-requires : tie.Need-is-argument-requires
-is-argument-requires c κs = search needs
-
--- src/lib.rt:670:41
-word-at-requires : tie.Need-word-at-requires
-word-at-requires c κs = search needs
-
--- src/lib.rt:670:9
-on-argument-requires : tie.Need-on-argument-requires
-on-argument-requires c κs = search needs
-
--- src/lib.rt:670:9
-same-length-3 : tie.Need-same-length-3
-same-length-3 c = search needs
-
--- src/lib.rt:670:9
 returns-3 : tie.Need-returns-3
-returns-3 c = ?
+returns-3 c = (says-as (c .on-argument .result .turn) (stateOf (c .before .before .before .before .before .before .before .before .before .before .before .before .before .before .before .before .args .scope .now) (c .before .before .before .before .before .before .before .before .before .before .before .before .before .before .before .before .args .until .now) (c .on-argument .result .spot)) (turn-argument (c .before .before .before .before .before .before .before .before .before .before .before .before .before .before .before .before .args .text .now) (c .before .before .before .before .before .before .before .before .before .before .before .before .before .before .before .before .args .heads .now) (c .before .before .before .before .before .before .before .before .before .before .before .before .before .before .before .before .args .firsts .now) (take (c .before .before .before .before .before .before .before .before .before .before .before .before .before .before .before .before .args .known) (c .before .before .before .before .before .before .before .before .before .before .before .before .before .before .before .before .args .titles .now)) (c .before .before .before .before .before .before .before .before .before .before .before .before .before .before .before .before .args .at) (stateOf (c .before .before .before .before .before .before .before .before .before .before .before .before .before .before .before .before .args .scope .now) (c .before .before .before .before .before .before .before .before .before .before .before .before .before .before .before .before .args .until .now) (c .before .before .before .before .before .before .before .before .before .before .before .before .before .before .before .before .args .spot)) (getD (c .before .before .before .before .before .before .before .before .before .before .before .before .before .before .before .before .args .tape .now) (c .before .before .before .before .before .before .before .before .before .before .before .before .before .before .before .before .args .at) 0) (drop (c .before .before .before .before .before .before .before .before .before .before .before .before .before .before .before .before .args .at + 1) (take (c .before .before .before .before .before .before .before .before .before .before .before .before .before .before .before .before .args .end) (c .before .before .before .before .before .before .before .before .before .before .before .before .before .before .before .before .args .tape .now))) _ (c .before .before .before .before .before .before .before .kind-of .ensures) _ (c .before .before .before .before .before .before .if1 .left) (c .before .before .before .before .before .if2 .left) (c .before .before .before .before .is-argument .ensures) (c .before .before .before .if3 .taken)) (rw (c .before .word-at .ensures) at (c .on-argument .ensures (c .before .before .before .before .before .before .before .before .before .before .before .before .before .before .before .before .args .until .now))), refl)
 
--- src/lib.rt:673:9
-on-index-requires : tie.Need-on-index-requires
-on-index-requires c κs = search needs
-
--- src/lib.rt:673:9
-same-length-4 : tie.Need-same-length-4
-same-length-4 c = search needs
-
--- src/lib.rt:673:9
 returns-4 : tie.Need-returns-4
-returns-4 c = ?
+returns-4 c = (says-as (c .on-index .result .turn) (stateOf (c .before .before .before .before .before .before .before .before .before .before .before .before .before .before .before .before .args .scope .now) (c .before .before .before .before .before .before .before .before .before .before .before .before .before .before .before .before .args .until .now) (c .on-index .result .spot)) (turn-index (c .before .before .before .before .before .before .before .before .before .before .before .before .before .before .before .before .args .text .now) (c .before .before .before .before .before .before .before .before .before .before .before .before .before .before .before .before .args .heads .now) (c .before .before .before .before .before .before .before .before .before .before .before .before .before .before .before .before .args .firsts .now) (take (c .before .before .before .before .before .before .before .before .before .before .before .before .before .before .before .before .args .known) (c .before .before .before .before .before .before .before .before .before .before .before .before .before .before .before .before .args .titles .now)) (c .before .before .before .before .before .before .before .before .before .before .before .before .before .before .before .before .args .at) (stateOf (c .before .before .before .before .before .before .before .before .before .before .before .before .before .before .before .before .args .scope .now) (c .before .before .before .before .before .before .before .before .before .before .before .before .before .before .before .before .args .until .now) (c .before .before .before .before .before .before .before .before .before .before .before .before .before .before .before .before .args .spot)) (getD (c .before .before .before .before .before .before .before .before .before .before .before .before .before .before .before .before .args .tape .now) (c .before .before .before .before .before .before .before .before .before .before .before .before .before .before .before .before .args .at) 0) (drop (c .before .before .before .before .before .before .before .before .before .before .before .before .before .before .before .before .args .at + 1) (take (c .before .before .before .before .before .before .before .before .before .before .before .before .before .before .before .before .args .end) (c .before .before .before .before .before .before .before .before .before .before .before .before .before .before .before .before .args .tape .now))) _ (c .before .before .before .before .before .before .before .kind-of .ensures) (c .before .before .if4 .taken)) (c .on-index .ensures (c .before .before .before .before .before .before .before .before .before .before .before .before .before .before .before .before .args .until .now)), refl)
 
--- src/lib.rt:676:34
-add-enter : tie.Need-add-enter
-add-enter c = search needs
-
--- src/lib.rt:676:43
-value-of-requires : tie.Need-value-of-requires
-value-of-requires c κs = search needs
-
--- src/lib.rt:676:34
-add-enter-2 : tie.Need-add-enter-2
-add-enter-2 c = search needs
-
--- src/lib.rt:676:9
-enter-requires : tie.Need-enter-requires
-enter-requires c κs = search needs
-
--- src/lib.rt:677:9
-same-length-5 : tie.Need-same-length-5
-same-length-5 c = search needs
-
--- src/lib.rt:677:9
 returns-5 : tie.Need-returns-5
-returns-5 c = ?
+returns-5 c = (turn-body (c .before .before .before .before .before .before .before .before .before .before .before .before .before .before .before .before .before .before .before .before .args .text .now) (c .before .before .before .before .before .before .before .before .before .before .before .before .before .before .before .before .before .before .before .before .args .heads .now) (c .before .before .before .before .before .before .before .before .before .before .before .before .before .before .before .before .before .before .before .before .args .firsts .now) (take (c .before .before .before .before .before .before .before .before .before .before .before .before .before .before .before .before .before .before .before .before .args .known) (c .before .before .before .before .before .before .before .before .before .before .before .before .before .before .before .before .before .before .before .before .args .titles .now)) (c .before .before .before .before .before .before .before .before .before .before .before .before .before .before .before .before .before .before .before .before .args .at) (stateOf (c .before .before .before .before .before .before .before .before .before .before .before .before .before .before .before .before .before .before .before .before .args .scope .now) (c .before .before .before .before .before .before .before .before .before .before .before .before .before .before .before .before .before .before .before .before .args .until .now) (c .before .before .before .before .before .before .before .before .before .before .before .before .before .before .before .before .before .before .before .before .args .spot)) (getD (c .before .before .before .before .before .before .before .before .before .before .before .before .before .before .before .before .before .before .before .before .args .tape .now) (c .before .before .before .before .before .before .before .before .before .before .before .before .before .before .before .before .before .before .before .before .args .at) 0) (drop (c .before .before .before .before .before .before .before .before .before .before .before .before .before .before .before .before .before .before .before .before .args .at + 1) (take (c .before .before .before .before .before .before .before .before .before .before .before .before .before .before .before .before .before .before .before .before .args .end) (c .before .before .before .before .before .before .before .before .before .before .before .before .before .before .before .before .before .before .before .before .args .tape .now))) _ (c .before .before .before .before .before .before .before .before .before .before .before .kind-of .ensures) (c .before .before .before .before .before .if5 .taken) ∙ rw (c .before .before .enter .ensures, c .before .before .before .value-of .ensures) refl, refl)
 
--- src/lib.rt:683:9
-on-block-requires : tie.Need-on-block-requires
-on-block-requires c κs = search needs
-
--- src/lib.rt:683:9
 returns-6 : tie.Need-returns-6
-returns-6 c = ?
+returns-6 c = (says-as (c .on-block .result .turn) (stateOf (c .before .before .before .before .before .before .before .before .before .before .before .before .before .before .before .before .before .args .scope .now) (c .before .before .before .before .before .before .before .before .before .before .before .before .before .before .before .before .before .args .until .now) (c .on-block .result .spot)) (turn-block (c .before .before .before .before .before .before .before .before .before .before .before .before .before .before .before .before .before .args .text .now) (c .before .before .before .before .before .before .before .before .before .before .before .before .before .before .before .before .before .args .heads .now) (c .before .before .before .before .before .before .before .before .before .before .before .before .before .before .before .before .before .args .firsts .now) (take (c .before .before .before .before .before .before .before .before .before .before .before .before .before .before .before .before .before .args .known) (c .before .before .before .before .before .before .before .before .before .before .before .before .before .before .before .before .before .args .titles .now)) (c .before .before .before .before .before .before .before .before .before .before .before .before .before .before .before .before .before .args .at) (stateOf (c .before .before .before .before .before .before .before .before .before .before .before .before .before .before .before .before .before .args .scope .now) (c .before .before .before .before .before .before .before .before .before .before .before .before .before .before .before .before .before .args .until .now) (c .before .before .before .before .before .before .before .before .before .before .before .before .before .before .before .before .before .args .spot)) (getD (c .before .before .before .before .before .before .before .before .before .before .before .before .before .before .before .before .before .args .tape .now) (c .before .before .before .before .before .before .before .before .before .before .before .before .before .before .before .before .before .args .at) 0) (drop (c .before .before .before .before .before .before .before .before .before .before .before .before .before .before .before .before .before .args .at + 1) (take (c .before .before .before .before .before .before .before .before .before .before .before .before .before .before .before .before .before .args .end) (c .before .before .before .before .before .before .before .before .before .before .before .before .before .before .before .before .before .args .tape .now))) _ (c .before .before .before .before .before .before .before .before .kind-of .ensures) (c .before .if6 .taken)) (c .on-block .ensures (c .before .before .before .before .before .before .before .before .before .before .before .before .before .before .before .before .before .args .scope .now) (c .before .before .before .before .before .before .before .before .before .before .before .before .before .before .before .before .before .args .until .now)), refl)
 
--- src/lib.rt:686:9
-on-declared-requires : tie.Need-on-declared-requires
-on-declared-requires c κs = search needs
-
--- src/lib.rt:686:9
-same-length-6 : tie.Need-same-length-6
-same-length-6 c = search needs
-
--- src/lib.rt:686:9
 returns-7 : tie.Need-returns-7
-returns-7 c = ?
+returns-7 c = (says-as (c .before .before .on-declared .result .turn) _ (turn-declared (c .before .before .before .before .before .before .before .before .before .before .before .before .before .before .before .before .before .before .before .before .before .args .text .now) (c .before .before .before .before .before .before .before .before .before .before .before .before .before .before .before .before .before .before .before .before .before .args .heads .now) (c .before .before .before .before .before .before .before .before .before .before .before .before .before .before .before .before .before .before .before .before .before .args .firsts .now) (take (c .before .before .before .before .before .before .before .before .before .before .before .before .before .before .before .before .before .before .before .before .before .args .known) (c .before .before .before .before .before .before .before .before .before .before .before .before .before .before .before .before .before .before .before .before .before .args .titles .now)) (c .before .before .before .before .before .before .before .before .before .before .before .before .before .before .before .before .before .before .before .before .before .args .at) (stateOf (c .before .before .before .before .before .before .before .before .before .before .before .before .before .before .before .before .before .before .before .before .before .args .scope .now) (c .before .before .before .before .before .before .before .before .before .before .before .before .before .before .before .before .before .before .before .before .before .args .until .now) (c .before .before .before .before .before .before .before .before .before .before .before .before .before .before .before .before .before .before .before .before .before .args .spot)) (getD (c .before .before .before .before .before .before .before .before .before .before .before .before .before .before .before .before .before .before .before .before .before .args .tape .now) (c .before .before .before .before .before .before .before .before .before .before .before .before .before .before .before .before .before .before .before .before .before .args .at) 0) (drop (c .before .before .before .before .before .before .before .before .before .before .before .before .before .before .before .before .before .before .before .before .before .args .at + 1) (take (c .before .before .before .before .before .before .before .before .before .before .before .before .before .before .before .before .before .before .before .before .before .args .end) (c .before .before .before .before .before .before .before .before .before .before .before .before .before .before .before .before .before .before .before .before .before .args .tape .now))) _ (c .before .before .before .before .before .before .before .before .before .before .before .before .kind-of .ensures) _ (c .before .before .before .before .before .before .before .before .before .before .before .if1 .left) (c .before .before .before .before .before .before .before .before .before .before .if2 .left) (c .before .before .before .before .before .before .before .before .before .is-argument .ensures) (c .before .before .before .before .before .before .before .before .if3 .left) (c .before .before .before .before .before .before .before .if4 .left) (c .before .before .before .before .before .before .if5 .left) (c .before .before .before .before .before .if6 .left) (c .before .before .before .before .if7 .taken)) (c .before .before .on-declared .ensures .0 (c .before .before .before .before .before .before .before .before .before .before .before .before .before .before .before .before .before .before .before .before .before .args .until .now)), c .before .before .on-declared .ensures .1)
 
--- src/lib.rt:655:1
 returns-8 : tie.Need-returns-8
-returns-8 c = ?
+returns-8 c = (turn-other (c .before .before .before .before .before .before .before .before .before .before .before .before .before .before .before .before .before .args .text .now) (c .before .before .before .before .before .before .before .before .before .before .before .before .before .before .before .before .before .args .heads .now) (c .before .before .before .before .before .before .before .before .before .before .before .before .before .before .before .before .before .args .firsts .now) (take (c .before .before .before .before .before .before .before .before .before .before .before .before .before .before .before .before .before .args .known) (c .before .before .before .before .before .before .before .before .before .before .before .before .before .before .before .before .before .args .titles .now)) (c .before .before .before .before .before .before .before .before .before .before .before .before .before .before .before .before .before .args .at) (stateOf (c .before .before .before .before .before .before .before .before .before .before .before .before .before .before .before .before .before .args .scope .now) (c .before .before .before .before .before .before .before .before .before .before .before .before .before .before .before .before .before .args .until .now) (c .before .before .before .before .before .before .before .before .before .before .before .before .before .before .before .before .before .args .spot)) (getD (c .before .before .before .before .before .before .before .before .before .before .before .before .before .before .before .before .before .args .tape .now) (c .before .before .before .before .before .before .before .before .before .before .before .before .before .before .before .before .before .args .at) 0) (drop (c .before .before .before .before .before .before .before .before .before .before .before .before .before .before .before .before .before .args .at + 1) (take (c .before .before .before .before .before .before .before .before .before .before .before .before .before .before .before .before .before .args .end) (c .before .before .before .before .before .before .before .before .before .before .before .before .before .before .before .before .before .args .tape .now))) _ (c .before .before .before .before .before .before .before .before .kind-of .ensures) _ (c .before .before .before .before .before .before .before .if1 .left) (c .before .before .before .before .before .before .if2 .left) (c .before .before .before .before .before .is-argument .ensures) (c .before .before .before .before .if3 .left) (c .before .before .before .if4 .left) (c .before .before .if5 .left) (c .before .if6 .left) (c .if7 .left), refl)
 
 pub take-word-spec : {M : Type 1} → statement M
 take-word-spec =
     tie.close
     (tie.spec
-    mul-word
-    shared-slice-read-word
-    kind-of-requires
-    on-name-requires
-    same-length
-    same-length-2
+    (λ c. search needs)
+    (λ c. search needs)
+    (λ c κs. search needs)
+    (λ c κs. search needs)
+    (λ c. search needs)
+    (λ c. search needs)
     returns
-    add-as-callee
-    as-callee-requires
+    (λ c. search needs)
+    (λ c κs. search needs)
     on-callee-requires
     returns-2
-    is-argument-requires
-    word-at-requires
-    on-argument-requires
-    same-length-3
+    (λ c κs. search needs)
+    (λ c κs. search needs)
+    (λ c κs. search needs)
+    (λ c. search needs)
     returns-3
-    on-index-requires
-    same-length-4
+    (λ c κs. search needs)
+    (λ c. search needs)
     returns-4
-    add-enter
-    value-of-requires
-    add-enter-2
-    enter-requires
-    same-length-5
+    (λ c. search needs)
+    (λ c κs. search needs)
+    (λ c. search needs)
+    (λ c κs. search needs)
+    (λ c. search needs)
     returns-5
-    on-block-requires
+    (λ c κs. search needs)
     returns-6
-    on-declared-requires
-    same-length-6
+    (λ c κs. search needs)
+    (λ c. search needs)
     returns-7
     returns-8)
