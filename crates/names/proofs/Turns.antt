@@ -59,6 +59,12 @@ module _ (s H F N : List ℕ) (p : ℕ) (S : State) (w : ℕ) (ws : List ℕ) (k
     unfolding turn pick
     turn-other h = rw (← e, ne-eqb k 1 n₁, ne-eqb k 3 n₃, ← f, t, ne-eqb k 7 n₇, ne-eqb k 8 n₈, ne-eqb k 9 n₉, le-ltb 9 k h)
 
+pub says-word : (o : Out (ℕ × State)) (t : Turn) (S : State) {w : ℕ} → Says o t S → t ≡ Word w → o ≡ ok (w, S)
+says-word o t S h e = subst (λ t. Says o t S) e h
+
+pub says-halt : (o : Out (ℕ × State)) (t : Turn) (S : State) {n p : ℕ} → Says o t S → t ≡ Halt n p → o ≡ refuse n p
+says-halt o t S h e = subst (λ t. Says o t S) e h
+
 -- ---- one word after another
 
 after-bind : {A B : Type 0} (o : Out A) (f : A → B) → (o >>= λ x. ok (f x)) ≡ after o f
@@ -134,3 +140,6 @@ pub finished : (s H F N : List ℕ) (end p : ℕ) (S S₀ : State) (t t₀ : Lis
     → sweep s H F N 0 S₀ (take end t₀) ≡ onto (take p t) (sweep s H F N p S (drop p (take end t₀))) → sweep s H F N 0 S₀ (take end t₀) ≡ ok (take end t)
 unfolding sweep after
 finished s H F N end p S S₀ t t₀ h g so = let e : p ≡ end = omega arith in so ∙ rw (none-left t₀ end p g, e) (ap ok (append-nil _))
+
+pub after-end : (end p : ℕ) (t t₀ : List ℕ) → p ≤ end → end ≤ p → drop p t ≡ drop p t₀ → drop end t ≡ drop end t₀
+after-end end p t t₀ h g e = let z : p ≡ end = omega arith in subst (λ i. drop i t ≡ drop i t₀) z e

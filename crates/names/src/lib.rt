@@ -655,7 +655,7 @@ fn on_declared(text: &[u8], scope: &mut [u32], word: u32, spot: Spot) -> Step
 fn take_word(text: &[u8], heads: &[u32], firsts: &[usize], titles: &[u32], known: usize, tape: &[u32], at: usize, end: usize, scope: &mut [u32], until: &mut [usize], spot: Spot) -> Step
     requires { ⌜ Rows (now heads) (now firsts) × (length (now titles) ≤ 64) × (end ≤ length (now tape)) × (at < end) × (length (now scope) ≤ 48) ⌝ }
     ensures { λ r. ⌜ Says (turn (now (text .entry)) (now (heads .entry)) (now (firsts .entry)) (take known (now (titles .entry))) at (stateOf (now (scope .entry)) (now (until .entry)) spot) (getD (now (tape .entry)) at 0) (drop (at + 1) (take end (now (tape .entry))))) (r .turn) (stateOf (now (scope .exit)) (now (until .exit)) (r .spot)) ⌝ }
-    ensures { λ r. ⌜ length (now (scope .exit)) ≡ length (now (scope .entry)) ⌝ }
+    ensures { λ r. ⌜ (length (now (scope .exit)) ≡ length (now (scope .entry))) × (length (now (until .exit)) ≡ length (now (until .entry))) ⌝ }
 {
     let word = tape[at];
     let kind = tape::kind_of(word);
