@@ -2,3 +2,4 @@ pub mod Leaves
 pub mod Counts
 pub mod Steps
 pub mod Turns
+pub mod Expressions
