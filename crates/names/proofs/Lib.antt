@@ -3,3 +3,5 @@ pub mod Counts
 pub mod Steps
 pub mod Turns
 pub mod Expressions
+pub mod Arguments
+pub mod Given
