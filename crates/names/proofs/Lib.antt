@@ -5,3 +5,5 @@ pub mod Turns
 pub mod Expressions
 pub mod Arguments
 pub mod Given
+pub mod Callees
+pub mod Bodies
