@@ -6,7 +6,7 @@ use Prim.Native.Nat.{ℕ, zero, suc, _+_, _*_, _-_, _<_, _≤_, max}
 use native.Mathlib.Decide.{decLt}
 use native.Mathlib.Omega.{arith}
 use lib.Dec.{T, eqb, ltb, eqb→eq}
-use lib.ListN.{length, getD, set, length-append, length-set}
+use lib.ListN.{length, getD, set, length-append, length-set, length-map}
 use lib.Seq.{getD-set-same, getD-set-other, set-out}
 use borrow.Author.Tests.{eq-eqb, ne-eqb, lt-ltb, le-ltb, ltb-true, ltb-false, eqb-true, eqb-false}
 use Rattle.rules.specs.Text.{pick}
@@ -20,7 +20,7 @@ use Rattle.rules.specs.Laws.Scoped.{found}
 use Rattle.tape.specs.Layout.{pack, kindOf, valueOf, CALL, INPUT, OUTPUT, LOOP, INDEX, BODY, nameW, kind-of, value-of}
 use Rattle.tape.specs.Encoding.{listW, expW, argW, stmtsW, calleeW}
 use Rattle.tape.specs.Resolved.{slotW, calleeNumber, calleeW′}
-use Rattle.names.specs.Spelling.{placeOf, lettersOf, nameOf, valued, scopeIn}
+use Rattle.names.specs.Spelling.{placeOf, lettersOf, nameOf, valued, entryOf, scopeIn}
 use Rattle.names.specs.Sweep as sw
 use Rattle.names.specs.Sweep.{State, declaredAt, callStep, calleeIn, countsFit, headingOf, indexStep, after, onto, indexed, entered, genericsGiven, given, inCall, turn, sweep}
 use Rattle.names.proofs.Turns.{turn-call, turn-index, turn-body, turn-other, sweep-on, sweep-no, onto-none}
@@ -149,6 +149,11 @@ made-call : (p₀ u : ℕ) (k : Callee) → u ≡ pack CALL 0 (p₀ * 128 + call
 unfolding stmtsW
 made-call p₀ u k e a b d x = rw e refl
 
+made-loop : (p₀ k u y : ℕ) (a b : Exp ℕ) (c d : Stmts ℕ Callee) → u ≡ pack INDEX 0 k → y ≡ pack BODY 0 (length (stmtsW slotW calleeW′ c))
+    → stmtsW slotW calleeW′ (loop p₀ k a b c d) ≡ pack LOOP 0 p₀ ∷ (u ∷ (expW slotW 0 a ++ (expW slotW 0 b ++ ((y ∷ stmtsW slotW calleeW′ c) ++ stmtsW slotW calleeW′ d))))
+unfolding stmtsW
+made-loop p₀ k u y a b c d e f = rw (e, f) refl
+
 regroup : (a b c d r : List ℕ) → (a ++ (b ++ (c ++ d))) ++ r ≡ a ++ (b ++ (c ++ (d ++ r)))
 regroup a b c d r = append-assoc a (b ++ (c ++ d)) r ∙ ap (λ l. a ++ l) (append-assoc b (c ++ d) r ∙ ap (λ l. b ++ l) (append-assoc c d r))
 
@@ -175,6 +180,10 @@ module _ (s H F N : List ℕ) (few : length s ≤ 16384) (Bs : Spelled) (knows :
   stays : (S : State) (p : ℕ) (c : Stmts Name Name) (L : List ℕ) (r : List ℕ)
       → sweep s H F N p S (stmtsW nameW calleeW c ++ r) ≡ emit (stmtsW slotW calleeW′) (statements Bs (scopeIn s (declaredAt S)) L c) (sweep s H F N (p + length (stmtsW nameW calleeW c)) S r) → Went S p c L r
   stays S p c L r e = record { final = S; declared = refl; room = refl; blocks = refl; ends = refl; kept = λ q k h. refl; swept = e }
+
+  nothing : (S : State) (p : ℕ) (L r : List ℕ) → sweep s H F N p S (stmtsW nameW calleeW end ++ r) ≡ emit (stmtsW slotW calleeW′) (statements Bs (scopeIn s (declaredAt S)) L end) (sweep s H F N (p + length (stmtsW nameW calleeW end)) S r)
+  unfolding stmtsW statements emit
+  nothing S p L r = let e : p + 0 ≡ p = omega arith in rw e (sym (onto-none (sweep s H F N p S r)))
 
   stmts-ends : (c : Stmts Name Name) (r : List ℕ) → SpeltS c → Ends r → Ends (words c ++ r)
   unfolding stmtsW AllStmts Ends inCall pick
@@ -296,3 +305,136 @@ module _ (s H F N : List ℕ) (few : length s ≤ 16384) (Bs : Spelled) (knows :
             ∙ emit-call _ (listW (expW slotW 0)) (listW (argW slotW INPUT)) (listW (argW slotW OUTPUT)) (stmtsW slotW calleeW′) (stmtsW slotW calleeW′) (call p₀ (W .callee)) (expressions E L gs) (arguments E L (W .inputs) ins) (arguments E L (W .outputs) outs) (statements Bs E L rest) _ (made-call p₀ _ (W .callee) w′)
             ∙ rw (e, f, z) refl;
           }
+
+    -- ---- a loop
+
+    module _ (p₀ : ℕ) (i : Name) (a b : Exp Name) (body rest : Stmts Name Name) (q : SpeltS (loop p₀ i a b body rest)) (fits : p + length (words (loop p₀ i a b body rest)) ≤ hi) (room : length (declaredAt S) ≤ length (S .until))
+        (ih-body : (T : State) (k p′ h : ℕ) (r′ : List ℕ) → declaredAt T ≡ declaredAt S → length (T .until) ≡ length (S .until) → h ≤ 16384 → Clear (k ∷ L) (T .until) p′ h → p′ + length (words body) ≤ h → Ends r′ → Went T p′ body (k ∷ L) r′)
+        (ih-rest : (T : State) (p′ : ℕ) → declaredAt T ≡ declaredAt S → length (T .until) ≡ length (S .until) → Clear L (T .until) p′ hi → p′ + length (words rest) ≤ hi → Went T p′ rest L r) where
+      abbrev A : List ℕ
+      A = expW nameW 0 a
+
+      abbrev B : List ℕ
+      B = expW nameW 0 b
+
+      abbrev Y : List ℕ
+      Y = words body
+
+      abbrev wb : ℕ
+      wb = pack BODY 0 (length (stmtsW nameW calleeW body))
+
+      abbrev wi : ℕ
+      wi = pack INDEX 0 (nameW i)
+
+      -- the words after the index
+      abbrev Z : List ℕ
+      Z = A ++ (B ++ ((pack BODY 0 (length (stmtsW nameW calleeW body)) ∷ Y) ++ (words rest ++ r)))
+
+      spelt-i : SpeltName s i
+      unfolding AllStmts
+      spelt-i = q .1
+
+      loop-opened : words (loop p₀ i a b body rest) ++ r ≡ pack LOOP 0 p₀ ∷ (pack INDEX 0 (nameW i) ∷ Z)
+      unfolding stmtsW
+      loop-opened = ap (λ l. pack LOOP 0 p₀ ∷ (pack INDEX 0 (nameW i) ∷ l)) (regroup A B (pack BODY 0 (length (stmtsW nameW calleeW body)) ∷ Y) (words rest) r)
+
+      loop-long : suc (suc (length A + (length B + (suc (length Y) + length (words rest))))) ≡ length (words (loop p₀ i a b body rest))
+      unfolding stmtsW
+      loop-long = ap (λ m. suc (suc m)) (sym (four A B (pack BODY 0 (length (stmtsW nameW calleeW body)) ∷ Y) (words rest)))
+
+      loop-first : sweep s H F N p S (words (loop p₀ i a b body rest) ++ r) ≡ onto (pack LOOP 0 p₀ ∷ []) (sweep s H F N (p + 1) S (pack INDEX 0 (nameW i) ∷ Z))
+      unfolding AllStmts
+      loop-first =
+          let small : 0 < 8 = omega arith in
+          let z : p₀ < 33554432 = omega (arith, q .0) in
+          ap (sweep s H F N p S) loop-opened
+          ∙ sweep-plain s H F N p S (pack LOOP 0 p₀) (pack INDEX 0 (nameW i) ∷ Z) (turn-other s H F N p S (pack LOOP 0 p₀) _ 6 (sym (kind-of LOOP 0 p₀ small z)) false (λ z. omega arith) (λ z. omega arith) refl refl (λ z. omega arith) (λ z. omega arith) (λ z. omega arith) (omega arith))
+
+      index-turned : turn s H F N (p + 1) S (pack INDEX 0 (nameW i)) Z ≡ after (indexStep s (declaredAt S) (pack INDEX 0 (nameW i))) (λ k. indexed S (pack INDEX 0 (nameW i)) k)
+      index-turned = let small : 0 < 8 = omega arith in turn-index s H F N (p + 1) S (pack INDEX 0 (nameW i)) Z 7 (sym (kind-of INDEX 0 (nameW i) small (name-fits s few INDEX 0 small i spelt-i))) refl
+
+      loop-steps : statements Bs E L (loop p₀ i a b body rest)
+          ≡ (indexStep s (declaredAt S) (pack INDEX 0 (nameW i)) >>= λ k. expression E L a >>= λ a. expression E L b >>= λ b. statements Bs E (k ∷ L) body >>= λ body. statements Bs E L rest >>= λ rest. ok (loop p₀ k a b body rest))
+      unfolding statements indexStep _>>=_ at need
+      loop-steps = rw (name-itself s few INDEX 0 (omega arith) i spelt-i, name-place s few INDEX 0 (omega arith) i spelt-i) (go (find E i))
+        where
+          inner : (k : ℕ) (c : Bool) (K : ℕ → Out (Stmts ℕ Callee)) → (needAt (i .place) c 7 >>= λ _. K k) ≡ ((needAt (i .place) c 7 >>= λ _. ok k) >>= K)
+          inner k true K = refl
+          inner k false K = refl
+
+          go : (o : Out ℕ) → (o >>= λ k. needAt (i .place) (isIndex (roleAt E k)) 7 >>= λ _. expression E L a >>= λ a. expression E L b >>= λ b. statements Bs E (k ∷ L) body >>= λ body. statements Bs E L rest >>= λ rest. ok (loop p₀ k a b body rest))
+              ≡ ((o >>= λ k. needAt (i .place) (isIndex (roleAt E k)) 7 >>= λ _. ok k) >>= λ k. expression E L a >>= λ a. expression E L b >>= λ b. statements Bs E (k ∷ L) body >>= λ body. statements Bs E L rest >>= λ rest. ok (loop p₀ k a b body rest))
+          go (ok k) = inner k (isIndex (roleAt E k)) (λ k. expression E L a >>= λ a. expression E L b >>= λ b. statements Bs E (k ∷ L) body >>= λ body. statements Bs E L rest >>= λ rest. ok (loop p₀ k a b body rest))
+          go (refuse m x) = refl
+
+      index-below : {k : ℕ} → indexStep s (declaredAt S) (pack INDEX 0 (nameW i)) ≡ ok k → k < length (S .until)
+      unfolding indexStep
+      index-below {k} e = inv _ _ e λ j ej e₁. inv-at _ _ _ e₁ λ _ _ e₂. omega (arith, found E (nameOf s (pack INDEX 0 (nameW i))) ej, ok-inj e₂, length-map (declaredAt S) (entryOf s))
+
+      loop-refused : {m x : ℕ} → indexStep s (declaredAt S) (pack INDEX 0 (nameW i)) ≡ refuse m x → Went S p (loop p₀ i a b body rest) L r
+      unfolding _>>=_ after emit
+      loop-refused {m} {x} e = stays S p (loop p₀ i a b body rest) L r
+          (loop-first ∙ ap (onto (pack LOOP 0 p₀ ∷ [])) (sweep-no s H F N (p + 1) S (pack INDEX 0 (nameW i)) Z {n = m} {q = x} (index-turned ∙ rw e refl)) ∙ rw (loop-steps, e) refl)
+
+      loop-goes : (k : ℕ) → indexStep s (declaredAt S) (pack INDEX 0 (nameW i)) ≡ ok k → Went S p (loop p₀ i a b body rest) L r
+      unfolding _>>=_ after AllStmts
+      loop-goes k e =
+          let small : 0 < 8 = omega arith in
+          let fine = name-fits s few INDEX 0 small i spelt-i in
+          let l = loop-long in
+          let S₁ : State = record { scope = S .scope; count = S .count; until = S .until; index = k; want = S .want; blocks = S .blocks } in
+          let p₂ = p + 1 + 1 + length A in
+          let p₃ = p₂ + length B in
+          let e₄ = p₃ + 1 + length Y in
+          let z : length (stmtsW nameW calleeW body) < 33554432 = omega arith in
+          let S₂ : State = record { scope = S .scope; count = S .count; until = set (S .until) k (max (getD (S .until) k 0) e₄); index = k; want = S .want; blocks = S .blocks } in
+          let inside = ih-body S₂ k (p₃ + 1) e₄ (words rest ++ r) refl (length-set (S .until) k (max (getD (S .until) k 0) e₄)) (omega arith) (set-clear L (S .until) k p (p₃ + 1) e₄ hi (index-below e) (omega arith) (omega arith) clear) (omega arith) (stmts-ends rest r (q .5) after-it) in
+          let still : (x j : ℕ) → e₄ ≤ x → ltb x (getD (inside .final .until) j 0) ≡ ltb x (getD (S .until) j 0) = λ x j h. inside .kept x j h ∙ set-kept (S .until) k e₄ x j h in
+          let end = ih-rest (inside .final) e₄ (inside .declared) (inside .ends ∙ length-set (S .until) k (max (getD (S .until) k 0) e₄)) (λ x j h g. still x j h ∙ clear x j (omega arith) g) (omega arith) in
+          let y : e₄ + length (words rest) ≡ p + length (words (loop p₀ i a b body rest)) = omega arith in
+          record {
+            final = end .final;
+            declared = end .declared ∙ inside .declared;
+            room = end .room ∙ inside .room;
+            blocks = end .blocks ∙ inside .blocks;
+            ends = end .ends ∙ inside .ends ∙ length-set (S .until) k (max (getD (S .until) k 0) e₄);
+            kept = λ x j h. end .kept x j (omega arith) ∙ still x j (omega arith);
+            swept = loop-first
+            ∙ ap (onto (pack LOOP 0 p₀ ∷ [])) (sweep-on s H F N (p + 1) S (pack INDEX 0 (nameW i)) Z (index-turned ∙ rw e refl)
+            ∙ ap (onto (valued (pack INDEX 0 (nameW i)) k ∷ [])) (exp-swept s H F N few S₁ L p hi low clear a 0 (p + 1 + 1) 2 _ small (q .2) (omega arith) (omega arith)
+            ∙ ap (emit (expW slotW 0) (expression E L a)) (exp-swept s H F N few S₁ L p hi low clear b 0 p₂ 2 _ small (q .3) (omega arith) (omega arith)
+            ∙ ap (emit (expW slotW 0) (expression E L b)) (sweep-plain s H F N p₃ S₁ (pack BODY 0 (length (stmtsW nameW calleeW body))) (Y ++ (words rest ++ r)) {T = S₂} (turn-body s H F N p₃ S₁ (pack BODY 0 (length (stmtsW nameW calleeW body))) _ 8 (sym (kind-of BODY 0 (length (stmtsW nameW calleeW body)) small z)) refl ∙ rw (value-of BODY 0 (length (stmtsW nameW calleeW body)) small z) refl)
+            ∙ ap (onto (pack BODY 0 (length (stmtsW nameW calleeW body)) ∷ [])) (inside .swept
+            ∙ ap (emit (stmtsW slotW calleeW′) (statements Bs E (k ∷ L) body)) (end .swept ∙ ap (λ ws. emit (stmtsW slotW calleeW′) (statements Bs (scopeIn s ws) L rest) (sweep s H F N (e₄ + length (words rest)) (end .final) r)) (inside .declared)))))))
+            ∙ emit-loop (pack LOOP 0 p₀) (valued (pack INDEX 0 (nameW i)) k) (pack BODY 0 (length (stmtsW nameW calleeW body))) (expW slotW 0) (expW slotW 0) (stmtsW slotW calleeW′) (stmtsW slotW calleeW′) (stmtsW slotW calleeW′) (loop p₀ k) (expression E L a) (expression E L b) (statements Bs E (k ∷ L) body) (statements Bs E L rest) _
+            (λ a′ b′ c d g. made-loop p₀ k _ _ a′ b′ c d (valued-pack INDEX 0 (nameW i) k fine) (sym (ap (pack BODY 0) (stmts-length Bs E (k ∷ L) body g))))
+            ∙ rw (loop-steps, e, y) refl;
+          }
+
+  -- ---- all statements
+
+  pub stmts-swept : (c : Stmts Name Name) (S : State) (L : List ℕ) (p hi : ℕ) (r : List ℕ) → SpeltS c → hi ≤ 16384 → Clear L (S .until) p hi → p + length (words c) ≤ hi → length (declaredAt S) ≤ length (S .until) → Ends r → Went S p c L r
+  unfolding AllStmts
+  stmts-swept end S L p hi r q low clear fits room e = stays S p end L r (nothing S p L r)
+  stmts-swept (call p₀ n gs ins outs rest) S L p hi r q low clear fits room e =
+      go (called Bs n) refl
+      (λ T p′ d u a b. stmts-swept rest T L p′ hi r (q .4) low (λ x j h g. ap (λ u. ltb x (getD u j 0)) u ∙ clear x j (omega arith) g) b (rw (d, u) room) e)
+    where
+      ask : (W : Wants) (b : Bool) → called Bs n ≡ ok W → (eqb (length gs) (W .generics) && eqb (length ins) (length (W .inputs)) && eqb (length outs) (length (W .outputs))) ≡ b
+          → ((T : State) (p′ : ℕ) → declaredAt T ≡ declaredAt S → T .until ≡ S .until → p ≤ p′ → p′ + length (words rest) ≤ hi → Went T p′ rest L r) → Went S p (call p₀ n gs ins outs rest) L r
+      ask W true f g ih = call-fits S L p hi r low clear e p₀ n gs ins outs rest q fits ih W f g
+      ask W false f g ih = call-miscounted S L p hi r low clear e p₀ n gs ins outs rest q fits ih W f g
+
+      go : (o : Out Wants) → called Bs n ≡ o → ((T : State) (p′ : ℕ) → declaredAt T ≡ declaredAt S → T .until ≡ S .until → p ≤ p′ → p′ + length (words rest) ≤ hi → Went T p′ rest L r) → Went S p (call p₀ n gs ins outs rest) L r
+      go (ok W) f ih = ask W _ f refl ih
+      go (refuse m x) f ih = call-refused S L p hi r low clear e p₀ n gs ins outs rest q fits ih f
+  stmts-swept (loop p₀ i a b body rest) S L p hi r q low clear fits room e =
+      go (indexStep s (declaredAt S) (pack INDEX 0 (nameW i))) refl
+      (λ T k p′ h r′ d u l c f g. stmts-swept body T (k ∷ L) p′ h r′ (q .4) l c f (rw (d, u) room) g)
+      (λ T p′ d u c f. stmts-swept rest T L p′ hi r (q .5) low c f (rw (d, u) room) e)
+    where
+      go : (o : Out ℕ) → indexStep s (declaredAt S) (pack INDEX 0 (nameW i)) ≡ o
+          → ((T : State) (k p′ h : ℕ) (r′ : List ℕ) → declaredAt T ≡ declaredAt S → length (T .until) ≡ length (S .until) → h ≤ 16384 → Clear (k ∷ L) (T .until) p′ h → p′ + length (words body) ≤ h → Ends r′ → Went T p′ body (k ∷ L) r′)
+          → ((T : State) (p′ : ℕ) → declaredAt T ≡ declaredAt S → length (T .until) ≡ length (S .until) → Clear L (T .until) p′ hi → p′ + length (words rest) ≤ hi → Went T p′ rest L r) → Went S p (loop p₀ i a b body rest) L r
+      go (ok k) f x y = loop-goes S L p hi r low clear e p₀ i a b body rest q fits room x y k f
+      go (refuse m z) f x y = loop-refused S L p hi r low clear e p₀ i a b body rest q fits room x y f
