@@ -7,3 +7,4 @@ pub mod Arguments
 pub mod Given
 pub mod Callees
 pub mod Bodies
+pub mod Declarations

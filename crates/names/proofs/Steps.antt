@@ -144,7 +144,7 @@ module _ (s N : List ℕ) (n w k : ℕ) (p : k ≡ indexOf (lettersOf s w) primi
         (rw (← p, le-ltb k 10 l, ← (a .0), lt-ltb _ _ (a .1)), omega (arith, below-all s N n w a))
 
 -- where a word is found in two lists, one after the other
-in-first : (w : List ℕ) (us vs : List (List ℕ)) → indexOf w us < length us → indexOf w (us ++ vs) ≡ indexOf w us
+pub in-first : (w : List ℕ) (us vs : List (List ℕ)) → indexOf w us < length us → indexOf w (us ++ vs) ≡ indexOf w us
 unfolding indexOf pick
 in-first w [] vs h = absurd (omega arith)
 in-first w (u ∷ us) vs h = go (same w u) h (in-first w us vs)
@@ -153,7 +153,7 @@ in-first w (u ∷ us) vs h = go (same w u) h (in-first w us vs)
     go true h f = refl
     go false h f = ap suc (f (omega arith))
 
-in-second : (w : List ℕ) (us vs : List (List ℕ)) → length us ≤ indexOf w us → indexOf w (us ++ vs) ≡ length us + indexOf w vs
+pub in-second : (w : List ℕ) (us vs : List (List ℕ)) → length us ≤ indexOf w us → indexOf w (us ++ vs) ≡ length us + indexOf w vs
 unfolding indexOf pick
 in-second w [] vs h = omega arith
 in-second w (u ∷ us) vs h = go (same w u) h (in-second w us vs)
