@@ -191,3 +191,108 @@ module _ (s H F N : List ℕ) (few : length s ≤ 16384) where
     where
       joined : (o u : Out (Unit {0})) (R : Out (List ℕ)) → emit (λ _. pack GENERIC 0 (nameW n) ∷ []) o (emit (λ _. listW genericW ns) u R) ≡ emit (λ _. pack GENERIC 0 (nameW n) ∷ listW genericW ns) (o >>= λ _. u) R
       joined o u R = joined-words (pack GENERIC 0 (nameW n)) (listW genericW ns) o u R
+
+-- ---- ports and VARs
+
+abbrev made : Name → Sort ℕ → Decl ℕ
+made n t = record { name = n; sort = t }
+
+plain-decl : (w : ℕ) (enc : Decl ℕ → List ℕ) (x : Decl ℕ) (o : Out (Unit {0})) (R : Out (List ℕ)) → enc x ≡ w ∷ [] → emit (λ _. w ∷ []) o R ≡ emit enc (o >>= λ _. ok x) R
+unfolding emit after _>>=_
+plain-decl w enc x (ok u) R h = rw h refl
+plain-decl w enc x (refuse n p) R h = refl
+
+then-made : (n : Name) (t : Sort ℕ) (o : Out (Unit {0})) → (o >>= λ _. ok (made n t)) ≡ (o >>= λ _. ok t >>= λ t. ok (made n t))
+unfolding _>>=_
+then-made n t (ok u) = refl
+then-made n t (refuse m p) = refl
+
+vector-decl : (w : ℕ) (n : Name) (ea eb : Exp ℕ → List ℕ) (enc : Decl ℕ → List ℕ) (o : Out (Unit {0})) (oa ob : Out (Exp ℕ)) (R : Out (List ℕ)) → ((a b : Exp ℕ) → enc (made n (vector a b)) ≡ w ∷ (ea a ++ eb b))
+    → emit (λ _. w ∷ []) o (emit ea oa (emit eb ob R)) ≡ emit enc (o >>= λ _. (oa >>= λ a. ob >>= λ b. ok (vector a b)) >>= λ t. ok (made n t)) R
+unfolding emit after _>>=_
+vector-decl w n ea eb enc (ok u) (ok a) (ok b) R h = ap (onto (w ∷ [])) (onto-onto (ea a) (eb b) R) ∙ onto-onto (w ∷ []) (ea a ++ eb b) R ∙ ap (λ l. onto l R) (sym (h a b))
+vector-decl w n ea eb enc (ok u) (ok a) (refuse m p) R h = refl
+vector-decl w n ea eb enc (ok u) (refuse m p) ob R h = refl
+vector-decl w n ea eb enc (refuse m p) oa ob R h = refl
+
+more-decls : (n : Name) (enc : Decl ℕ → List ℕ) (o : Out (Unit {0})) (ot : Out (Sort ℕ)) (od : Out (List (Decl ℕ))) (R : Out (List ℕ))
+    → emit enc (o >>= λ _. ot >>= λ t. ok (made n t)) (emit (listW enc) od R) ≡ emit (listW enc) (o >>= λ _. ot >>= λ t. od >>= λ ds. ok (made n t ∷ ds)) R
+unfolding emit after _>>=_ listW
+more-decls n enc (ok u) (ok t) (ok ds) R = onto-onto (enc (made n t)) (listW enc ds) R
+more-decls n enc (ok u) (ok t) (refuse m p) R = refl
+more-decls n enc (ok u) (refuse m p) od R = refl
+more-decls n enc (refuse m p) ot od R = refl
+
+module _ (s H F N : List ℕ) (few : length s ≤ 16384) (K : ℕ) (high : 10 < K) (lo hi : ℕ) (low : hi ≤ 16384) where
+  abbrev SpeltD : Decl Name → Type 0
+  SpeltD d = AllDecl {C = Name} (SpeltName s) (SpeltName s) (SpeltCall s) (length s) d
+
+  abbrev word : Name → Sort Name → ℕ
+  word n t = pack K (headOfSort t) (nameW n)
+
+  decl-swept : (n : Name) (t : Sort Name) (S : State) (p : ℕ) (r : List ℕ) → SpeltName s n → AllSort {C = Name} (SpeltName s) (SpeltCall s) (length s) t → Clear [] (S .until) lo hi → lo ≤ p
+      → p + length (sortW nameW K (nameW n) t) ≤ hi → S .count < length (S .scope) → length (S .scope) ≤ 48
+      → sweep s H F N p S (sortW nameW K (nameW n) t ++ r)
+      ≡ emit (declW slotW K) (once (scopeIn s (declaredAt S)) n >>= λ _. sort (scopeIn s (declaredAt S)) t >>= λ t. ok (made n t)) (sweep s H F N (p + length (sortW nameW K (nameW n) t)) (declares S (word n t) .1) r)
+  unfolding sortW declW AllSort sort headOfSort roleOf
+  decl-swept n wire S p r q u clear a b c l = declared-word s H F N few S p K 0 n r (omega arith) (omega arith) q ∙ plain-decl (pack K 0 (nameW n)) (declW slotW K) (made n wire) _ _ refl ∙ computed (once (scopeIn s (declaredAt S)) n) wire
+    where
+      computed : (o : Out (Unit {0})) (t : Sort ℕ) → emit (declW slotW K) (o >>= λ _. ok (made n t)) (sweep s H F N (p + 1) (declares S (word n wire) .1) r) ≡ emit (declW slotW K) (o >>= λ _. ok t >>= λ t. ok (made n t)) (sweep s H F N (p + 1) (declares S (word n wire) .1) r)
+      computed o t = ap (λ o. emit (declW slotW K) o (sweep s H F N (p + 1) (declares S (word n wire) .1) r)) (then-made n t o)
+  decl-swept n num S p r q u clear a b c l = declared-word s H F N few S p K 2 n r (omega arith) (omega arith) q ∙ plain-decl (pack K 2 (nameW n)) (declW slotW K) (made n num) _ _ refl ∙ computed (once (scopeIn s (declaredAt S)) n) num
+    where
+      computed : (o : Out (Unit {0})) (t : Sort ℕ) → emit (declW slotW K) (o >>= λ _. ok (made n t)) (sweep s H F N (p + 1) (declares S (word n num) .1) r) ≡ emit (declW slotW K) (o >>= λ _. ok t >>= λ t. ok (made n t)) (sweep s H F N (p + 1) (declares S (word n num) .1) r)
+      computed o t = ap (λ o. emit (declW slotW K) o (sweep s H F N (p + 1) (declares S (word n num) .1) r)) (then-made n t o)
+  decl-swept n (vector x y) S p r q u clear a b c l =
+      let A = expW nameW 0 x in
+      let B = expW nameW 0 y in
+      let w = pack K 1 (nameW n) in
+      let S₁ = declares S (pack K 1 (nameW n)) .1 in
+      let E = scopeIn s (declaredAt S) in
+      let v = entryOf s (pack K 1 (nameW n)) in
+      let m = length-append (expW nameW 0 x) (expW nameW 0 y) in
+      let role : entryOf s (pack K 1 (nameW n)) .role ≡ a-vector = ap (λ e. e .role) (entry-declared s K (record { name = n; sort = vector x y }) few (λ z. omega arith) q) in
+      let g = one-more s few S (pack K 1 (nameW n)) c l in
+      let ex : (e : Exp Name) → expression (scopeIn s (declaredAt S₁)) [] e ≡ expression (scopeIn s (declaredAt S)) [] e = λ e. ap (λ E. expression E [] e) g ∙ exp-more (scopeIn s (declaredAt S)) (entryOf s (pack K 1 (nameW n))) role e in
+      let z : p + 1 + length (expW nameW 0 x) + length (expW nameW 0 y) ≡ p + suc (length (expW nameW 0 x ++ expW nameW 0 y)) = omega arith in
+      declared-word s H F N few S p K 1 n ((expW nameW 0 x ++ expW nameW 0 y) ++ r) (omega arith) (omega arith) q
+      ∙ ap (emit (λ _. pack K 1 (nameW n) ∷ []) (once (scopeIn s (declaredAt S)) n)) (ap (sweep s H F N (p + 1) S₁) (append-assoc (expW nameW 0 x) (expW nameW 0 y) r)
+      ∙ exp-swept s H F N few S₁ [] lo hi low clear x 0 (p + 1) 2 (expW nameW 0 y ++ r) (omega arith) (u .0) (omega arith) (omega arith)
+      ∙ ap (emit (expW slotW 0) (expression (scopeIn s (declaredAt S₁)) [] x)) (exp-swept s H F N few S₁ [] lo hi low clear y 0 (p + 1 + length (expW nameW 0 x)) 2 r (omega arith) (u .1) (omega arith) (omega arith))
+      ∙ ap (λ o. emit (expW slotW 0) o (emit (expW slotW 0) (expression (scopeIn s (declaredAt S₁)) [] y) (sweep s H F N (p + 1 + length (expW nameW 0 x) + length (expW nameW 0 y)) S₁ r))) (ex x)
+      ∙ ap (λ o. emit (expW slotW 0) (expression (scopeIn s (declaredAt S)) [] x) (emit (expW slotW 0) o (sweep s H F N (p + 1 + length (expW nameW 0 x) + length (expW nameW 0 y)) S₁ r))) (ex y))
+      ∙ vector-decl (pack K 1 (nameW n)) n (expW slotW 0) (expW slotW 0) (declW slotW K) (once (scopeIn s (declaredAt S)) n) (expression (scopeIn s (declaredAt S)) [] x) (expression (scopeIn s (declaredAt S)) [] y) _ (λ a b. refl)
+      ∙ rw z refl
+
+  pub decls-opened : (ds : List (Decl Name)) (S : State) (p : ℕ) (r : List ℕ) → All SpeltD ds → Clear [] (S .until) lo hi → lo ≤ p → p + length (listW (declW nameW K) ds) ≤ hi → S .count + length ds ≤ length (S .scope) → length (S .scope) ≤ 48
+      → Opened s H F N few S (length ds) (scopeIn s (declaredAt S) ++ map declared ds) (listW (declW nameW K) ds) p r (emit (listW (declW slotW K)) (declarations (scopeIn s (declaredAt S)) ds))
+  unfolding listW All declarations emit declW
+  decls-opened [] S p r q clear a b c l =
+      let e : p + 0 ≡ p = omega arith in
+      record { final = S; scope = sym (append-nil _); count = omega arith; room = refl; until = refl; index = refl; blocks = refl; swept = rw e (sym (onto-none (sweep s H F N p S r))) }
+  decls-opened (d ∷ ds) S p r q clear a b c l =
+      let W = sortW nameW K (nameW (d .name)) (d .sort) in
+      let S₁ = declares S (word (d .name) (d .sort)) .1 in
+      let E = scopeIn s (declaredAt S) in
+      let n = length-append (sortW nameW K (nameW (d .name)) (d .sort)) (listW (declW nameW K) ds) in
+      let m : min (S .count) 48 ≡ S .count = omega arith in
+      let g = one-more s few S (word (d .name) (d .sort)) (omega arith) l ∙ ap (λ x. scopeIn s (declaredAt S) ++ (x ∷ [])) (entry-declared s K d few (λ z. omega arith) (q .0 .name)) in
+      let z = length-set (S .scope) (S .count) (word (d .name) (d .sort)) in
+      let p₁ = p + length (sortW nameW K (nameW (d .name)) (d .sort)) in
+      let rest = decls-opened ds S₁ p₁ r (q .1) clear (omega arith) (omega arith) (omega arith) (omega arith) in
+      let e : p₁ + length (listW (declW nameW K) ds) ≡ p + length (sortW nameW K (nameW (d .name)) (d .sort) ++ listW (declW nameW K) ds) = omega arith in
+      record {
+        final = rest .final;
+        scope = rest .scope ∙ ap (λ E. E ++ map declared ds) g ∙ append-assoc (scopeIn s (declaredAt S)) (declared d ∷ []) (map declared ds);
+        count = omega (arith, rest .count);
+        room = rest .room ∙ z;
+        until = rest .until;
+        index = rest .index;
+        blocks = rest .blocks;
+        swept = ap (sweep s H F N p S) (append-assoc (sortW nameW K (nameW (d .name)) (d .sort)) (listW (declW nameW K) ds) r)
+        ∙ decl-swept (d .name) (d .sort) S p (listW (declW nameW K) ds ++ r) (q .0 .name) (q .0 .sort) clear a (omega arith) (omega arith) l
+        ∙ ap (emit (declW slotW K) (once (scopeIn s (declaredAt S)) (d .name) >>= λ _. sort (scopeIn s (declaredAt S)) (d .sort) >>= λ t. ok (made (d .name) t)))
+        (rest .swept ∙ ap (λ E. emit (listW (declW slotW K)) (declarations E ds) (sweep s H F N (p₁ + length (listW (declW nameW K) ds)) (rest .final) r)) g)
+        ∙ more-decls (d .name) (declW slotW K) (once (scopeIn s (declaredAt S)) (d .name)) (sort (scopeIn s (declaredAt S)) (d .sort)) (declarations (scopeIn s (declaredAt S) ++ (declared d ∷ [])) ds) _
+        ∙ rw e refl;
+      }
