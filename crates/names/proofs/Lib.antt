@@ -8,3 +8,4 @@ pub mod Given
 pub mod Callees
 pub mod Bodies
 pub mod Declarations
+pub mod Blocks
