@@ -9,3 +9,4 @@ pub mod Callees
 pub mod Bodies
 pub mod Declarations
 pub mod Blocks
+pub mod Gather

@@ -228,6 +228,10 @@ abbrev pub Tells : Out ℕ → Named → Type 0
 Tells o (Done k) = (o ≡ ok k) × (k < 128)
 Tells o (No n p) = o ≡ refuse n p
 
+abbrev pub Answers : Out ℕ → Named → Type 0
+Answers o (Done k) = o ≡ ok k
+Answers o (No n p) = o ≡ refuse n p
+
 abbrev pub Small : Named → Type 0
 Small (Done k) = k < 128
 Small (No n p) = Unit {0}

@@ -15,7 +15,7 @@ ghost use Rattle.rules.specs.Primitives.{inputsOf, primitiveNames};
 ghost use Rattle.tape.specs.Layout.{kindOf, headIn, valueOf};
 ghost use Rattle.tape.specs.Written.{put};
 ghost use Rattle.names.specs.Spelling.{placeOf, lettersOf, valued, roleIn, roleNumber};
-ghost use Rattle.names.specs.Sweep.{headings, firsts, titles, leading, headingAt, headingOf, genericsGiven, inCall, given, standing, sortFits, shapeFits, nameStep, argumentStep, indexStep, calleeIn, countsFit, callStep, blockStep, turn, sweep, mainIn, Tells, Finds, Says, Small, Swept, Rows, stateOf, start, declareStep, after, called, argued, indexed, entered, begun, declares};
+ghost use Rattle.names.specs.Sweep.{heading, headings, firsts, titles, leading, headingAt, headingOf, genericsGiven, inCall, given, standing, sortFits, shapeFits, nameStep, argumentStep, indexStep, calleeIn, countsFit, callStep, blockStep, turn, sweep, mainIn, Tells, Finds, Says, Small, Answers, Swept, Rows, stateOf, start, declareStep, after, called, argued, indexed, entered, begun, declares};
 
 // What is known where a word stands, beside the words of the declared names and the ends of loops.
 pub struct Spot {
@@ -718,4 +718,117 @@ fn sweep_words(text: &[u8], heads: &[u32], firsts: &[usize], titles: &[u32], kno
         at += 1;
     }
     Named::Done(0)
+}
+
+fn is_heading(word: u32) -> bool
+    ensures { λ r. ⌜ r ≡ heading word ⌝ }
+{
+    let kind = tape::kind_of(word);
+    if Kind::BODY < kind {
+        return kind < Kind::VAR;
+    }
+    false
+}
+
+// The words that name blocks, generics and ports, from place 4 on.
+fn gather_heads(tape: &[u32], end: usize, heads: &mut [u32])
+    requires { ⌜ end ≤ length (now tape) ⌝ }
+    ensures { λ r. ⌜ now (heads .exit) ≡ put (now (heads .entry)) 4 (headings (take end (now (tape .entry)))) ⌝ }
+{
+    let mut n: usize = 4;
+    let mut i: usize = 0;
+    while i < end {
+        let word = tape[i];
+        if !is_heading(word) {
+            i += 1;
+            continue;
+        }
+        keep(heads, n, word);
+        n += 1;
+        i += 1;
+    }
+}
+
+// The words that name blocks; their number.
+fn gather_titles(tape: &[u32], end: usize, rows: &mut [u32]) -> usize
+    requires { ⌜ end ≤ length (now tape) ⌝ }
+    ensures { λ r. ⌜ (now (rows .exit) ≡ put (now (rows .entry)) 0 (titles (take end (now (tape .entry))))) × (r ≡ length (titles (take end (now (tape .entry))))) ⌝ }
+{
+    let mut n: usize = 0;
+    let mut i: usize = 0;
+    while i < end {
+        let word = tape[i];
+        if tape::kind_of(word) != Kind::BLOCK {
+            i += 1;
+            continue;
+        }
+        keep(rows, n, word);
+        n += 1;
+        i += 1;
+    }
+    n
+}
+
+fn keep_place(places: &mut [usize], i: usize, place: usize)
+    ensures { λ r. ⌜ now (places .exit) ≡ set (now (places .entry)) i place ⌝ }
+{
+    if i < places.len() {
+        places[i] = place;
+    }
+}
+
+// Where each block's heading begins among the headings.
+fn gather_firsts(tape: &[u32], end: usize, places: &mut [usize])
+    requires { ⌜ end ≤ length (now tape) ⌝ }
+    ensures { λ r. ⌜ now (places .exit) ≡ put (now (places .entry)) 0 (firsts 4 (take end (now (tape .entry)))) ⌝ }
+{
+    let mut n: usize = 4;
+    let mut b: usize = 0;
+    let mut i: usize = 0;
+    while i < end {
+        let word = tape[i];
+        if !is_heading(word) {
+            i += 1;
+            continue;
+        }
+        if tape::kind_of(word) != Kind::BLOCK {
+            n += 1;
+            i += 1;
+            continue;
+        }
+        keep_place(places, b, n);
+        b += 1;
+        n += 1;
+        i += 1;
+    }
+}
+
+// The first block of the name main.
+fn find_main(text: &[u8], titles: &[u32], known: usize) -> Found
+    ensures { λ r. ⌜ Finds (bytes "main") (map (lettersOf (now (text .entry))) (take known (now (titles .entry)))) r ⌝ }
+{
+    let n = least(known, titles.len());
+    let mut i: usize = 0;
+    while i < n {
+        if alike(b"main", letters(text, titles[i])) {
+            return Found::At(i);
+        }
+        i += 1;
+    }
+    Found::Nothing
+}
+
+// 9: main is there, and has no generics.
+fn main_block(text: &[u8], heads: &[u32], places: &[usize], titles: &[u32], known: usize) -> Named
+    requires { ⌜ Rows (now heads) (now places) ⌝ }
+    ensures { λ r. ⌜ Answers (mainIn (now (text .entry)) (now (heads .entry)) (now (places .entry)) (take known (now (titles .entry)))) r ⌝ }
+{
+    let found = find_main(text, titles, known);
+    let Found::At(m) = found else {
+        return Named::No(9, text.len());
+    };
+    if tape::kind_of(word_at(heads, place_at(places, m) + 1)) == Kind::GENERIC {
+        return Named::No(9, place_of(word_at(titles, m)));
+    }
+    Named::Done(m)
 }
