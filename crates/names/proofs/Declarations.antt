@@ -103,7 +103,7 @@ headOfSort wire = 0
 headOfSort (vector a b) = 1
 headOfSort num = 2
 
-head-of-sort : {N : Type 0} (t : Sort N) → headOfSort t < 8
+pub head-of-sort : {N : Type 0} (t : Sort N) → headOfSort t < 8
 unfolding headOfSort
 head-of-sort wire = omega arith
 head-of-sort (vector a b) = omega arith

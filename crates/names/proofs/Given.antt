@@ -80,7 +80,7 @@ module _ (s : List ℕ) (few : length s ≤ 16384) where
   abbrev SpeltA : Arg Name → Type 0
   SpeltA a = AllArg {C = Name} (SpeltName s) (SpeltCall s) (length s) a
 
-  exp-low : (e : Exp Name) (h l : ℕ) → h < 8 → SpeltE l e → length (expW nameW h e) ≤ 16384 → Low (expW nameW h e)
+  pub exp-low : (e : Exp Name) (h l : ℕ) → h < 8 → SpeltE l e → length (expW nameW h e) ≤ 16384 → Low (expW nameW h e)
   unfolding expW AllExp Low
   exp-low (number v) h l small q b = let k = kind-of NUMBER h v small (omega arith) in (omega arith, tt)
   exp-low (name n) h l small q b = let k = kind-of NAME h (nameW n) small (name-fits s few NAME h small n q) in (omega arith, tt)

@@ -10,3 +10,5 @@ pub mod Bodies
 pub mod Declarations
 pub mod Blocks
 pub mod Gather
+pub mod Headings
+pub mod Known
