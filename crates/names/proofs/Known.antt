@@ -175,12 +175,12 @@ module _ (s : List ℕ) (few : length s ≤ 16384) where
   heads-short [] q = omega arith
   heads-short (B ∷ Bs) q = omega (arith, head-short B (q .0), heads-short Bs (q .1), length-append (headW B) (listW headW Bs))
 
-  starts-length : (n : ℕ) (Bs : Spelled) → length (starts n Bs) ≡ length Bs
+  pub starts-length : (n : ℕ) (Bs : Spelled) → length (starts n Bs) ≡ length Bs
   unfolding starts
   starts-length n [] = refl
   starts-length n (B ∷ Bs) = ap suc (starts-length (n + length (headW B)) Bs)
 
-  starts-below : (n b : ℕ) (Bs : Spelled) → getD (starts n Bs) b 0 ≤ n + length (listW headW Bs)
+  pub starts-below : (n b : ℕ) (Bs : Spelled) → getD (starts n Bs) b 0 ≤ n + length (listW headW Bs)
   unfolding starts listW
   starts-below n b [] = omega arith
   starts-below n zero (B ∷ Bs) = omega arith
@@ -198,17 +198,17 @@ module _ (s : List ℕ) (few : length s ≤ 16384) where
     abbrev pub N : List ℕ
     N = take (length Bs) (put (zeros 64) 0 (map titleW Bs))
 
-    H-list : put (zeros 3140) 4 (listW headW Bs) ≡ zeros 4 ++ (listW headW Bs ++ zeros (3140 - (4 + length (listW headW Bs))))
+    pub H-list : put (zeros 3140) 4 (listW headW Bs) ≡ zeros 4 ++ (listW headW Bs ++ zeros (3140 - (4 + length (listW headW Bs))))
     H-list =
         let l : 4 + length (listW headW Bs) ≤ length (zeros 3140) = omega (arith, heads-short Bs q, zeros-length 3140) in
         put-list (listW headW Bs) (zeros 3140) 4 l ∙ ap (λ z. zeros 4 ++ (listW headW Bs ++ z)) (drop-zeros 3140 (4 + length (listW headW Bs)))
 
-    F-list : put (zeros 64) 0 (starts 4 Bs) ≡ starts 4 Bs ++ zeros (64 - (0 + length (starts 4 Bs)))
+    pub F-list : put (zeros 64) 0 (starts 4 Bs) ≡ starts 4 Bs ++ zeros (64 - (0 + length (starts 4 Bs)))
     F-list =
         let l : 0 + length (starts 4 Bs) ≤ length (zeros 64) = omega (arith, starts-length 4 Bs, zeros-length 64) in
         put-list (starts 4 Bs) (zeros 64) 0 l ∙ ap (λ z. starts 4 Bs ++ z) (drop-zeros 64 (0 + length (starts 4 Bs)))
 
-    N-list : N ≡ map titleW Bs
+    pub N-list : N ≡ map titleW Bs
     N-list =
         let l : 0 + length (map titleW Bs) ≤ length (zeros 64) = omega (arith, length-map Bs titleW, zeros-length 64) in
         ap (take (length Bs)) (put-list (map titleW Bs) (zeros 64) 0 l) ∙ take-at (map titleW Bs) _ (length Bs) (length-map Bs titleW)

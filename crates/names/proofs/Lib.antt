@@ -12,3 +12,4 @@ pub mod Blocks
 pub mod Gather
 pub mod Headings
 pub mod Known
+pub mod Whole
