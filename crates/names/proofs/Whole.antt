@@ -52,6 +52,9 @@ ok-same e = cc
 refuse-inj : {A : Type 0} {n m p q : ℕ} → _≡_ {A = Out A} (refuse n p) (refuse m q) → m ≡ n
 refuse-inj e = cc
 
+refused : {A B : Type 0} {n : ℕ} {m : ℕ} {p : ℕ} {q : ℕ} → _≡_ {A = Out A} (refuse n p) (refuse m q) → _≡_ {A = Out B} (refuse n p) (refuse m q)
+refused {n = n} {m = m} {p = p} {q = q} e = let a : n ≡ m = cc in let b : p ≡ q = cc in rw (a, b) refl
+
 counted-generics : (H : List ℕ) (p : ℕ) (B : Block Name Name) → Heads H p B → leading GENERIC (drop (p + 1) H) ≡ length (B .generics)
 unfolding headingAt
 counted-generics H p B h = ap (λ x. x .generics) (h .counts)
@@ -91,3 +94,110 @@ module _ (s H F N : List ℕ) (Bs : Spelled) (few : length s ≤ 16384) (q : All
           let g : not (eqb (kindOf (getD H (getD F i 0 + 1) 0)) GENERIC) ≡ eqb (length (M .generics)) 0 = sym (lead-first GENERIC (omega arith) H (getD F i 0 + 1)) ∙ ap (λ n. eqb n 0) (counted-generics H (getD F i 0) M h) in
           rw (t .0, pl, g, e)
       go (refuse n p) e = let t = nth-else 9 Bs (indexOf (bytes "main") (map (λ B. B .name .letters) Bs)) e in rw (t .0, e, t .1)
+
+abbrev whole : List (Block ℕ Callee) → ℕ → Program
+whole bs m = record { blocks = bs; main = m }
+
+-- ---- the tape of a program
+
+lies-take : (t ws : List ℕ) → Lies t 0 ws → take (length ws) t ≡ ws
+lies-take t ws l =
+    let n : length (take (length ws) t) ≡ length ws = simp length-take (omega (arith, l .fits)) in
+    ext-getD 0 (take (length ws) t) ws n (λ i h. let k : i < length ws = omega arith in let e : 0 + i ≡ i = omega arith in getD-take (length ws) t i 0 k ∙ subst (λ j. getD t j 0 ≡ getD ws i 0) e (l .word i k))
+
+zeros-below : (xs : List ℕ) (m K : ℕ) → ((b : ℕ) → getD xs b 0 ≤ K) → (b : ℕ) → getD (xs ++ zeros m) b 0 ≤ K
+zeros-below [] zero K f b = f b
+zeros-below [] (suc m) K f zero = omega arith
+zeros-below [] (suc m) K f (suc b) = zeros-below [] m K f b
+zeros-below (x ∷ xs) m K f zero = f 0
+zeros-below (x ∷ xs) m K f (suc b) = zeros-below xs m K (λ b. f (suc b)) b
+
+put-length : (ws t : List ℕ) (to : ℕ) → length (put t to ws) ≡ length t
+unfolding put
+put-length [] t to = refl
+put-length (w ∷ ws) t to = put-length ws (set t to w) (to + 1) ∙ length-set t to w
+
+no-loops : (hi : ℕ) (p k : ℕ) → 0 ≤ p → p < hi → ltb p (getD (zeros 48) k 0) ≡ among k []
+unfolding among
+no-loops hi p k a b = let z : getD (zeros 48) k 0 ≤ 0 = zeros-below [] 48 0 (λ b. omega arith) k in le-ltb p (getD (zeros 48) k 0) (omega arith)
+
+module _ (s t : List ℕ) (end : ℕ) (Bs : Spelled) (holds : Holds s t end Bs) where
+  taken : take end t ≡ tapeOf Bs
+  taken = rw (holds .size) (lies-take t (tapeOf Bs) (holds .lies))
+
+  fits : length (listW (blockW nameW calleeW) Bs) ≤ 16384
+  fits = omega (arith, holds .size, holds .short)
+
+  abbrev H : List ℕ
+  H = put (zeros 3140) 4 (headings (take end t))
+
+  abbrev F : List ℕ
+  F = put (zeros 64) 0 (firsts 4 (take end t))
+
+  abbrev N : List ℕ
+  N = take (length (titles (take end t))) (put (zeros 64) 0 (titles (take end t)))
+
+  H-is : H ≡ put (zeros 3140) 4 (listW headW Bs)
+  H-is = ap (λ ws. put (zeros 3140) 4 (headings ws)) taken ∙ ap (put (zeros 3140) 4) (tape-headings s (holds .few) Bs (holds .spelt) fits)
+
+  F-is : F ≡ put (zeros 64) 0 (starts 4 Bs)
+  F-is = ap (λ ws. put (zeros 64) 0 (firsts 4 ws)) taken ∙ ap (put (zeros 64) 0) (tape-firsts s (holds .few) Bs (holds .spelt) fits)
+
+  titles-are : titles (take end t) ≡ map titleW Bs
+  titles-are = ap titles taken ∙ tape-titles s (holds .few) Bs (holds .spelt) fits
+
+  N-is : N ≡ take (length Bs) (put (zeros 64) 0 (map titleW Bs))
+  N-is = rw (titles-are, length-map Bs titleW) refl
+
+  knows : Knows s H F N Bs
+  knows = rw (H-is, F-is, N-is) (known s (holds .few) Bs (holds .spelt) (holds .many))
+
+  N-titles : N ≡ map titleW Bs
+  N-titles = N-is ∙ N-list s (holds .few) Bs (holds .spelt) (holds .many)
+
+  pub rows-right : Rows H F
+  rows-right = record {
+    few = omega (arith, put-length (headings (take end t)) (zeros 3140) 4, zeros-length 3140);
+    there = λ b. subst (λ f. getD f b 0 ≤ 3140) (sym (F-is ∙ F-list s (holds .few) Bs (holds .spelt) (holds .many))) (zeros-below (starts 4 Bs) (64 - (0 + length (starts 4 Bs))) 3140 (λ b. omega (arith, starts-below s (holds .few) 4 b Bs, heads-short s (holds .few) Bs (holds .spelt), holds .many)) b);
+  }
+
+  swept-as : sweep s H F N 0 (start (zeros 48) (zeros 48)) (take end t) ≡ emit (listW (blockW slotW calleeW′)) (resolveBlocks Bs [] Bs) (ok [])
+  swept-as = ap (sweep s H F N 0 (start (zeros 48) (zeros 48))) taken
+      ∙ blocks-swept s H F N (holds .few) Bs knows 16384 (omega arith) Bs [] (start (zeros 48) (zeros 48)) 0 refl (holds .many) (holds .spelt) refl (zeros-length 48) (zeros-length 48) (no-loops 16384) (omega (arith, fits))
+
+  pub swept-no : {n p : ℕ} → sweep s H F N 0 (start (zeros 48) (zeros 48)) (take end t) ≡ refuse n p → names (length s) Bs ≡ refuse n p
+  unfolding names _>>=_ emit after
+  swept-no {n} {p} e = go (resolveBlocks Bs [] Bs) (sym swept-as ∙ e)
+    where
+      go : (o : Out (List (Block ℕ Callee))) → emit (listW (blockW slotW calleeW′)) o (ok []) ≡ refuse n p → (o >>= λ blocks. mainOf (length s) Bs >>= λ m. ok (whole blocks m)) ≡ refuse n p
+      go (ok bs) e = absurd (ok-no e)
+      go (refuse m q) e = refused e
+
+  module _ (u : List ℕ) (e : sweep s H F N 0 (start (zeros 48) (zeros 48)) (take end t) ≡ ok (take end u)) (d : drop end u ≡ drop end t) (l : length u ≡ length t) where
+    laid : (bs : List (Block ℕ Callee)) → take end u ≡ listW (blockW slotW calleeW′) bs → u ≡ put t 0 (listW (blockW slotW calleeW′) bs)
+    laid bs x =
+        let k : length (listW (blockW slotW calleeW′) bs) ≡ end = sym (ap length x) ∙ simp length-take (omega (arith, holds .size, holds .lies .fits)) in
+        let z : 0 + length (listW (blockW slotW calleeW′) bs) ≡ end = omega arith in
+        sym (take-append-drop end u) ∙ ap (λ l. l ++ drop end u) x ∙ ap (λ l. listW (blockW slotW calleeW′) bs ++ l) d
+        ∙ sym (put-list (listW (blockW slotW calleeW′) bs) t 0 (omega (arith, holds .size, holds .lies .fits)) ∙ ap (λ n. listW (blockW slotW calleeW′) bs ++ drop n t) z)
+
+    pub main-no : {n p : ℕ} → mainIn s H F N ≡ refuse n p → names (length s) Bs ≡ refuse n p
+    unfolding names _>>=_ emit after
+    main-no {n} {p} f = go (resolveBlocks Bs [] Bs) (sym swept-as ∙ e)
+      where
+        go : (o : Out (List (Block ℕ Callee))) → emit (listW (blockW slotW calleeW′)) o (ok []) ≡ ok (take end u) → (o >>= λ blocks. mainOf (length s) Bs >>= λ m. ok (whole blocks m)) ≡ refuse n p
+        go (ok bs) g = rw (sym (main-as s H F N Bs (holds .few) (holds .spelt) knows N-titles) ∙ f) refl
+        go (refuse m q) g = absurd (ok-no (sym g))
+
+    pub all-right : {m : ℕ} → mainIn s H F N ≡ ok m → Right s Bs t u m
+    unfolding names _>>=_ emit after
+    all-right {m} f = go (resolveBlocks Bs [] Bs) refl (sym swept-as ∙ e)
+      where
+        go : (o : Out (List (Block ℕ Callee))) → resolveBlocks Bs [] Bs ≡ o → emit (listW (blockW slotW calleeW′)) o (ok []) ≡ ok (take end u) → Right s Bs t u m
+        go (ok bs) x g = record {
+          program = record { blocks = bs; main = m };
+          named = rw (x, sym (main-as s H F N Bs (holds .few) (holds .spelt) knows N-titles) ∙ f) refl;
+          main = refl;
+          tape = laid bs (sym (ok-same g) ∙ append-nil (listW (blockW slotW calleeW′) bs));
+        }
+        go (refuse n p) x g = absurd (ok-no (sym g))

@@ -6,7 +6,9 @@ ghost use mathlib.Core.Path.{_≡_};
 ghost use mathlib.Core.Bool.{Bool, _&&_, _||_};
 ghost use mathlib.Core.List.{List, [], map, _++_};
 ghost use Prim.Native.Nat.{ℕ, _+_, _*_, _-_, _<_, _≤_, min, max};
-ghost use lib.ListN.{length, take, drop, getD, set};
+ghost use lib.ListN.{length, take, drop, getD, set, replicate};
+ghost use Rattle.rules.specs.Syntax.{Spelled};
+ghost use Rattle.names.specs.Resolves.{Holds, Readable, Resolves};
 ghost use lib.Dec.{eqb, ltb};
 ghost use Rattle.rules.specs.Text.{pick, same, indexOf, isIn, bytes};
 ghost use Rattle.rules.specs.Names.{isIndex};
@@ -831,4 +833,32 @@ fn main_block(text: &[u8], heads: &[u32], places: &[usize], titles: &[u32], know
         return Named::No(9, place_of(word_at(titles, m)));
     }
     Named::Done(m)
+}
+
+// Resolves with rows that are lent, all zeros.
+fn resolve_with(text: &[u8], tape: &mut [u32], end: usize, heads: &mut [u32], places: &mut [usize], titles: &mut [u32], scope: &mut [u32], until: &mut [usize]) -> Named
+    requires { ⌜ Readable (now text) (now tape) end × (now heads ≡ replicate 3140 0) × (now places ≡ replicate 64 0) × (now titles ≡ replicate 64 0) × (now scope ≡ replicate 48 0) × (now until ≡ replicate 48 0) ⌝ }
+    ensures { λ r. ⌜ ((Bs : Spelled) → Holds (now (text .entry)) (now (tape .entry)) end Bs → Resolves (now (text .entry)) Bs (now (tape .entry)) (now (tape .exit)) r) ⌝ }
+{
+    gather_heads(tape, end, heads);
+    gather_firsts(tape, end, places);
+    let known = gather_titles(tape, end, titles);
+    let swept = sweep_words(text, heads, places, titles, known, tape, end, scope, until);
+    let Named::Done(_) = swept else {
+        return swept;
+    };
+    main_block(text, heads, places, titles, known)
+}
+
+// Checks every name of a tape (6 to 9), and makes it the number of its declaration.
+pub fn resolve(text: &[u8], tape: &mut [u32], end: usize) -> Named
+    requires { ⌜ Readable (now text) (now tape) end ⌝ }
+    ensures { λ r. ⌜ ((Bs : Spelled) → Holds (now (text .entry)) (now (tape .entry)) end Bs → Resolves (now (text .entry)) Bs (now (tape .entry)) (now (tape .exit)) r) ⌝ }
+{
+    let mut heads = [0u32; 3140];
+    let mut places = [0usize; 64];
+    let mut titles = [0u32; 64];
+    let mut scope = [0u32; 48];
+    let mut until = [0usize; 48];
+    resolve_with(text, tape, end, &mut heads, &mut places, &mut titles, &mut scope, &mut until)
 }
