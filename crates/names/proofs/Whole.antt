@@ -21,8 +21,10 @@ use Rattle.tape.specs.Resolved.{slotW, calleeW′, resolvedTape}
 use Rattle.tape.specs.Written.{put}
 use Rattle.tape.specs.Lies.{Lies}
 use Rattle.names.specs.Spelling.{placeOf, lettersOf}
-use Rattle.names.specs.Sweep.{State, start, headings, titles, firsts, leading, headingAt, Rows, mainIn, after, onto, sweep}
-use Rattle.names.specs.Resolves.{Holds, Right}
+use Rattle.names.specs.Sweep.{State, start, headings, titles, firsts, leading, headingAt, Rows, Answers, Swept, mainIn, after, onto, sweep}
+use Rattle.names.specs.Resolves.{Holds, Readable, Right, Resolves}
+use Rattle.names.specs.declared.Named.{Named}
+use Rattle.names.specs.declared.Named.the-variants.{Done, No}
 use Rattle.names.proofs.Expressions.{emit, name-place}
 use Rattle.names.proofs.Callees.{Knows, Heads}
 use Rattle.names.proofs.Blocks.{blocks-swept}
@@ -201,3 +203,48 @@ module _ (s t : List ℕ) (end : ℕ) (Bs : Spelled) (holds : Holds s t end Bs) 
           tape = laid bs (sym (ok-same g) ∙ append-nil (listW (blockW slotW calleeW′) bs));
         }
         go (refuse n p) x g = absurd (ok-no (sym g))
+
+-- ---- with rows that are lent
+
+module _ (s t : List ℕ) (end : ℕ) {h₀ h f₀ f n₀ n sc un : List ℕ} {k : ℕ} (z₁ : h₀ ≡ zeros 3140) (z₂ : f₀ ≡ zeros 64) (z₃ : n₀ ≡ zeros 64) (z₄ : sc ≡ zeros 48) (z₅ : un ≡ zeros 48)
+    (a : h ≡ put h₀ 4 (headings (take end t))) (b : f ≡ put f₀ 0 (firsts 4 (take end t))) (c : n ≡ put n₀ 0 (titles (take end t))) (d : k ≡ length (titles (take end t))) where
+  a′ : h ≡ put (zeros 3140) 4 (headings (take end t))
+  a′ = a ∙ ap (λ l. put l 4 (headings (take end t))) z₁
+
+  b′ : f ≡ put (zeros 64) 0 (firsts 4 (take end t))
+  b′ = b ∙ ap (λ l. put l 0 (firsts 4 (take end t))) z₂
+
+  c′ : take k n ≡ take (length (titles (take end t))) (put (zeros 64) 0 (titles (take end t)))
+  c′ = rw (d, c, z₃) refl
+
+  pub lent-rows : Readable s t end → Rows h f
+  lent-rows r = rw (a′, b′) (rows-right s t end (r .program) (r .holds))
+
+  swept-so : sweep s h f (take k n) 0 (start sc un) (take end t) ≡ sweep s (put (zeros 3140) 4 (headings (take end t))) (put (zeros 64) 0 (firsts 4 (take end t))) (take (length (titles (take end t))) (put (zeros 64) 0 (titles (take end t)))) 0 (start (zeros 48) (zeros 48)) (take end t)
+  swept-so = rw (a′, b′, c′, z₄, z₅) refl
+
+  main-so : mainIn s h f (take k n) ≡ mainIn s (put (zeros 3140) 4 (headings (take end t))) (put (zeros 64) 0 (firsts 4 (take end t))) (take (length (titles (take end t))) (put (zeros 64) 0 (titles (take end t))))
+  main-so = rw (a′, b′, c′) refl
+
+  module _ (u : List ℕ) (r : Named) (w : Swept (sweep s h f (take k n) 0 (start sc un) (take end t)) end t u r) where
+    pub lent-no : {m p : ℕ} → r ≡ No m p → (Bs : Spelled) → Holds s t end Bs → Resolves s Bs t u r
+    lent-no e Bs holds = subst (λ r. Resolves s Bs t u r) (sym e) (swept-no s t end Bs holds (sym swept-so ∙ subst (λ r. Swept (sweep s h f (take k n) 0 (start sc un) (take end t)) end t u r) e w))
+
+    pub lent-main : {x : ℕ} → r ≡ Done x → (v : Named) → Answers (mainIn s h f (take k n)) v → (Bs : Spelled) → Holds s t end Bs → Resolves s Bs t u v
+    lent-main {x} e v g Bs holds = go v g
+      where
+        y : Swept (sweep s h f (take k n) 0 (start sc un) (take end t)) end t u (Done x)
+        y = subst (λ r. Swept (sweep s h f (take k n) 0 (start sc un) (take end t)) end t u r) e w
+
+        go : (v : Named) → Answers (mainIn s h f (take k n)) v → Resolves s Bs t u v
+        go (Done m) g = all-right s t end Bs holds u (sym swept-so ∙ y .0) (y .1) (y .2) (sym main-so ∙ g)
+        go (No m p) g = main-no s t end Bs holds u (sym swept-so ∙ y .0) (y .1) (y .2) (sym main-so ∙ g)
+
+pub tape-there : (s t : List ℕ) (end : ℕ) → Readable s t end → end ≤ length t
+tape-there s t end r = omega (arith, r .holds .size, r .holds .lies .fits)
+
+pub row-64 : (n₀ n ws : List ℕ) → n₀ ≡ zeros 64 → n ≡ put n₀ 0 ws → length n ≤ 64
+row-64 n₀ n ws z e = omega (arith, ap length e, put-length ws n₀ 0, ap length z, zeros-length 64)
+
+pub row-48 : (n : List ℕ) → n ≡ zeros 48 → length n ≤ 48
+row-48 n z = omega (arith, ap length z, zeros-length 48)
