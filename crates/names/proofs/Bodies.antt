@@ -297,13 +297,13 @@ module _ (s H F N : List ℕ) (few : length s ≤ 16384) (Bs : Spelled) (knows :
             ends = end .ends;
             kept = λ a k h. end .kept a k (omega arith);
             swept = ap (sweep s H F N p S) opened
-            ∙ sweep-on s H F N p S (pack CALL 0 (nameW n)) X (turned ∙ rw (callee, e, counts W t, f, t .counts) refl)
-            ∙ ap (onto (valued (pack CALL 0 (nameW n)) (placeOf (pack CALL 0 (nameW n)) * 128 + c) ∷ [])) (exps-swept s H F N few (moved S v) L p hi low clear gs (p + 1) (I ++ (O ++ (words rest ++ r))) (q .1) (omega arith) (omega arith)
-            ∙ ap (emit (listW (expW slotW 0)) (expressions E L gs)) (args-swept s H F N few S L p hi low clear INPUT (omega arith) (omega arith) (W .inputs) ins v p₁ (O ++ (words rest ++ r)) (q .2) li (wanted-left H v (W .inputs) (W .outputs) (t .ports)) (omega arith) (omega arith)
-            ∙ ap (emit (listW (argW slotW INPUT)) (arguments E L (W .inputs) ins)) (args-swept s H F N few S L p hi low clear OUTPUT (omega arith) (omega arith) (W .outputs) outs (v + length (W .inputs)) p₂ (words rest ++ r) (q .3) lo (wanted-right H v (W .inputs) (W .outputs) (t .ports)) (omega arith) (omega arith)
-            ∙ ap (emit (listW (argW slotW OUTPUT)) (arguments E L (W .outputs) outs)) (end .swept))))
-            ∙ emit-call _ (listW (expW slotW 0)) (listW (argW slotW INPUT)) (listW (argW slotW OUTPUT)) (stmtsW slotW calleeW′) (stmtsW slotW calleeW′) (call p₀ (W .callee)) (expressions E L gs) (arguments E L (W .inputs) ins) (arguments E L (W .outputs) outs) (statements Bs E L rest) _ (made-call p₀ _ (W .callee) w′)
-            ∙ rw (e, f, z) refl;
+                ∙ sweep-on s H F N p S (pack CALL 0 (nameW n)) X (turned ∙ rw (callee, e, counts W t, f, t .counts) refl)
+                ∙ ap (onto (valued (pack CALL 0 (nameW n)) (placeOf (pack CALL 0 (nameW n)) * 128 + c) ∷ [])) (exps-swept s H F N few (moved S v) L p hi low clear gs (p + 1) (I ++ (O ++ (words rest ++ r))) (q .1) (omega arith) (omega arith)
+                ∙ ap (emit (listW (expW slotW 0)) (expressions E L gs)) (args-swept s H F N few S L p hi low clear INPUT (omega arith) (omega arith) (W .inputs) ins v p₁ (O ++ (words rest ++ r)) (q .2) li (wanted-left H v (W .inputs) (W .outputs) (t .ports)) (omega arith) (omega arith)
+                ∙ ap (emit (listW (argW slotW INPUT)) (arguments E L (W .inputs) ins)) (args-swept s H F N few S L p hi low clear OUTPUT (omega arith) (omega arith) (W .outputs) outs (v + length (W .inputs)) p₂ (words rest ++ r) (q .3) lo (wanted-right H v (W .inputs) (W .outputs) (t .ports)) (omega arith) (omega arith)
+                ∙ ap (emit (listW (argW slotW OUTPUT)) (arguments E L (W .outputs) outs)) (end .swept))))
+                ∙ emit-call _ (listW (expW slotW 0)) (listW (argW slotW INPUT)) (listW (argW slotW OUTPUT)) (stmtsW slotW calleeW′) (stmtsW slotW calleeW′) (call p₀ (W .callee)) (expressions E L gs) (arguments E L (W .inputs) ins) (arguments E L (W .outputs) outs) (statements Bs E L rest) _ (made-call p₀ _ (W .callee) w′)
+                ∙ rw (e, f, z) refl;
           }
 
     -- ---- a loop
@@ -400,15 +400,15 @@ module _ (s H F N : List ℕ) (few : length s ≤ 16384) (Bs : Spelled) (knows :
             ends = end .ends ∙ inside .ends ∙ length-set (S .until) k (max (getD (S .until) k 0) e₄);
             kept = λ x j h. end .kept x j (omega arith) ∙ still x j (omega arith);
             swept = loop-first
-            ∙ ap (onto (pack LOOP 0 p₀ ∷ [])) (sweep-on s H F N (p + 1) S (pack INDEX 0 (nameW i)) Z (index-turned ∙ rw e refl)
-            ∙ ap (onto (valued (pack INDEX 0 (nameW i)) k ∷ [])) (exp-swept s H F N few S₁ L p hi low clear a 0 (p + 1 + 1) 2 _ small (q .2) (omega arith) (omega arith)
-            ∙ ap (emit (expW slotW 0) (expression E L a)) (exp-swept s H F N few S₁ L p hi low clear b 0 p₂ 2 _ small (q .3) (omega arith) (omega arith)
-            ∙ ap (emit (expW slotW 0) (expression E L b)) (sweep-plain s H F N p₃ S₁ (pack BODY 0 (length (stmtsW nameW calleeW body))) (Y ++ (words rest ++ r)) {T = S₂} (turn-body s H F N p₃ S₁ (pack BODY 0 (length (stmtsW nameW calleeW body))) _ 8 (sym (kind-of BODY 0 (length (stmtsW nameW calleeW body)) small z)) refl ∙ rw (value-of BODY 0 (length (stmtsW nameW calleeW body)) small z) refl)
-            ∙ ap (onto (pack BODY 0 (length (stmtsW nameW calleeW body)) ∷ [])) (inside .swept
-            ∙ ap (emit (stmtsW slotW calleeW′) (statements Bs E (k ∷ L) body)) (end .swept ∙ ap (λ ws. emit (stmtsW slotW calleeW′) (statements Bs (scopeIn s ws) L rest) (sweep s H F N (e₄ + length (words rest)) (end .final) r)) (inside .declared)))))))
-            ∙ emit-loop (pack LOOP 0 p₀) (valued (pack INDEX 0 (nameW i)) k) (pack BODY 0 (length (stmtsW nameW calleeW body))) (expW slotW 0) (expW slotW 0) (stmtsW slotW calleeW′) (stmtsW slotW calleeW′) (stmtsW slotW calleeW′) (loop p₀ k) (expression E L a) (expression E L b) (statements Bs E (k ∷ L) body) (statements Bs E L rest) _
-            (λ a′ b′ c d g. made-loop p₀ k _ _ a′ b′ c d (valued-pack INDEX 0 (nameW i) k fine) (sym (ap (pack BODY 0) (stmts-length Bs E (k ∷ L) body g))))
-            ∙ rw (loop-steps, e, y) refl;
+                ∙ ap (onto (pack LOOP 0 p₀ ∷ [])) (sweep-on s H F N (p + 1) S (pack INDEX 0 (nameW i)) Z (index-turned ∙ rw e refl)
+                ∙ ap (onto (valued (pack INDEX 0 (nameW i)) k ∷ [])) (exp-swept s H F N few S₁ L p hi low clear a 0 (p + 1 + 1) 2 _ small (q .2) (omega arith) (omega arith)
+                ∙ ap (emit (expW slotW 0) (expression E L a)) (exp-swept s H F N few S₁ L p hi low clear b 0 p₂ 2 _ small (q .3) (omega arith) (omega arith)
+                ∙ ap (emit (expW slotW 0) (expression E L b)) (sweep-plain s H F N p₃ S₁ (pack BODY 0 (length (stmtsW nameW calleeW body))) (Y ++ (words rest ++ r)) {T = S₂} (turn-body s H F N p₃ S₁ (pack BODY 0 (length (stmtsW nameW calleeW body))) _ 8 (sym (kind-of BODY 0 (length (stmtsW nameW calleeW body)) small z)) refl ∙ rw (value-of BODY 0 (length (stmtsW nameW calleeW body)) small z) refl)
+                ∙ ap (onto (pack BODY 0 (length (stmtsW nameW calleeW body)) ∷ [])) (inside .swept
+                ∙ ap (emit (stmtsW slotW calleeW′) (statements Bs E (k ∷ L) body)) (end .swept ∙ ap (λ ws. emit (stmtsW slotW calleeW′) (statements Bs (scopeIn s ws) L rest) (sweep s H F N (e₄ + length (words rest)) (end .final) r)) (inside .declared)))))))
+                ∙ emit-loop (pack LOOP 0 p₀) (valued (pack INDEX 0 (nameW i)) k) (pack BODY 0 (length (stmtsW nameW calleeW body))) (expW slotW 0) (expW slotW 0) (stmtsW slotW calleeW′) (stmtsW slotW calleeW′) (stmtsW slotW calleeW′) (loop p₀ k) (expression E L a) (expression E L b) (statements Bs E (k ∷ L) body) (statements Bs E L rest) _
+                (λ a′ b′ c d g. made-loop p₀ k _ _ a′ b′ c d (valued-pack INDEX 0 (nameW i) k fine) (sym (ap (pack BODY 0) (stmts-length Bs E (k ∷ L) body g))))
+                ∙ rw (loop-steps, e, y) refl;
           }
 
   -- ---- all statements

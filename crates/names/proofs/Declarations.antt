@@ -185,8 +185,8 @@ module _ (s H F N : List ℕ) (few : length s ≤ 16384) where
         index = rest .index;
         blocks = rest .blocks;
         swept = declared-word S p GENERIC 0 n (listW genericW ns ++ r) (omega arith) (omega arith) (q .0)
-        ∙ ap (emit (λ _. pack GENERIC 0 (nameW n) ∷ []) (once (scopeIn s (declaredAt S)) n)) (rest .swept ∙ ap (λ E. emit (λ _. listW genericW ns) (generics E ns) (sweep s H F N (p + 1 + length (listW genericW ns)) (rest .final) r)) g)
-        ∙ rw e (joined (once (scopeIn s (declaredAt S)) n) (generics (scopeIn s (declaredAt S) ++ (generic n ∷ [])) ns) (sweep s H F N (p + suc (length (listW genericW ns))) (rest .final) r));
+            ∙ ap (emit (λ _. pack GENERIC 0 (nameW n) ∷ []) (once (scopeIn s (declaredAt S)) n)) (rest .swept ∙ ap (λ E. emit (λ _. listW genericW ns) (generics E ns) (sweep s H F N (p + 1 + length (listW genericW ns)) (rest .final) r)) g)
+            ∙ rw e (joined (once (scopeIn s (declaredAt S)) n) (generics (scopeIn s (declaredAt S) ++ (generic n ∷ [])) ns) (sweep s H F N (p + suc (length (listW genericW ns))) (rest .final) r));
       }
     where
       joined : (o u : Out (Unit {0})) (R : Out (List ℕ)) → emit (λ _. pack GENERIC 0 (nameW n) ∷ []) o (emit (λ _. listW genericW ns) u R) ≡ emit (λ _. pack GENERIC 0 (nameW n) ∷ listW genericW ns) (o >>= λ _. u) R
@@ -290,9 +290,9 @@ module _ (s H F N : List ℕ) (few : length s ≤ 16384) (K : ℕ) (high : 10 < 
         index = rest .index;
         blocks = rest .blocks;
         swept = ap (sweep s H F N p S) (append-assoc (sortW nameW K (nameW (d .name)) (d .sort)) (listW (declW nameW K) ds) r)
-        ∙ decl-swept (d .name) (d .sort) S p (listW (declW nameW K) ds ++ r) (q .0 .name) (q .0 .sort) clear a (omega arith) (omega arith) l
-        ∙ ap (emit (declW slotW K) (once (scopeIn s (declaredAt S)) (d .name) >>= λ _. sort (scopeIn s (declaredAt S)) (d .sort) >>= λ t. ok (made (d .name) t)))
-        (rest .swept ∙ ap (λ E. emit (listW (declW slotW K)) (declarations E ds) (sweep s H F N (p₁ + length (listW (declW nameW K) ds)) (rest .final) r)) g)
-        ∙ more-decls (d .name) (declW slotW K) (once (scopeIn s (declaredAt S)) (d .name)) (sort (scopeIn s (declaredAt S)) (d .sort)) (declarations (scopeIn s (declaredAt S) ++ (declared d ∷ [])) ds) _
-        ∙ rw e refl;
+            ∙ decl-swept (d .name) (d .sort) S p (listW (declW nameW K) ds ++ r) (q .0 .name) (q .0 .sort) clear a (omega arith) (omega arith) l
+            ∙ ap (emit (declW slotW K) (once (scopeIn s (declaredAt S)) (d .name) >>= λ _. sort (scopeIn s (declaredAt S)) (d .sort) >>= λ t. ok (made (d .name) t)))
+            (rest .swept ∙ ap (λ E. emit (listW (declW slotW K)) (declarations E ds) (sweep s H F N (p₁ + length (listW (declW nameW K) ds)) (rest .final) r)) g)
+            ∙ more-decls (d .name) (declW slotW K) (once (scopeIn s (declaredAt S)) (d .name)) (sort (scopeIn s (declaredAt S)) (d .sort)) (declarations (scopeIn s (declaredAt S) ++ (declared d ∷ [])) ds) _
+            ∙ rw e refl;
       }

@@ -89,18 +89,23 @@ module _ (s : List ℕ) (few : length s ≤ 16384) where
       let small : 0 < 8 = omega arith in
       let m₁ = length-append (listW (expW nameW 0) gs) (listW (argW nameW INPUT) ins ++ (listW (argW nameW OUTPUT) outs ++ stmtsW nameW calleeW rest)) in
       let m₂ = length-append (listW (argW nameW INPUT) ins) (listW (argW nameW OUTPUT) outs ++ stmtsW nameW calleeW rest) in
-      let m₃ = length-append (listW (argW nameW OUTPUT) outs) (stmtsW nameW calleeW rest) in
-      (no-heading CALL 0 (nameW n) small (name-fits s few CALL 0 small n (q .0 .1)) refl,
-      plain-both (listW (expW nameW 0) gs) (listW (argW nameW INPUT) ins ++ (listW (argW nameW OUTPUT) outs ++ stmtsW nameW calleeW rest)) (exps-plain gs (q .1) (omega arith)) (plain-both (listW (argW nameW INPUT) ins) (listW (argW nameW OUTPUT) outs ++ stmtsW nameW calleeW rest) (args-plain INPUT (omega arith) ins (q .2) (omega arith)) (plain-both (listW (argW nameW OUTPUT) outs) (stmtsW nameW calleeW rest) (args-plain OUTPUT (omega arith) outs (q .3) (omega arith)) (stmts-plain rest (q .4) (omega arith)))))
+      let m₃ = length-append (listW (argW nameW OUTPUT) outs) (stmtsW nameW calleeW rest) in (
+        no-heading CALL 0 (nameW n) small (name-fits s few CALL 0 small n (q .0 .1)) refl,
+        plain-both (listW (expW nameW 0) gs) (listW (argW nameW INPUT) ins ++ (listW (argW nameW OUTPUT) outs ++ stmtsW nameW calleeW rest)) (exps-plain gs (q .1) (omega arith)) (plain-both (listW (argW nameW INPUT) ins) (listW (argW nameW OUTPUT) outs ++ stmtsW nameW calleeW rest) (args-plain INPUT (omega arith) ins (q .2) (omega arith)) (plain-both (listW (argW nameW OUTPUT) outs) (stmtsW nameW calleeW rest) (args-plain OUTPUT (omega arith) outs (q .3) (omega arith)) (stmts-plain rest (q .4) (omega arith)))),
+      )
   stmts-plain (loop p i a b′ body rest) q b =
       let small : 0 < 8 = omega arith in
       let Y = stmtsW nameW calleeW body in
       let m₁ = length-append (expW nameW 0 a) (expW nameW 0 b′ ++ ((pack BODY 0 (length (stmtsW nameW calleeW body)) ∷ stmtsW nameW calleeW body) ++ stmtsW nameW calleeW rest)) in
       let m₂ = length-append (expW nameW 0 b′) ((pack BODY 0 (length (stmtsW nameW calleeW body)) ∷ stmtsW nameW calleeW body) ++ stmtsW nameW calleeW rest) in
       let m₃ = length-append (pack BODY 0 (length (stmtsW nameW calleeW body)) ∷ stmtsW nameW calleeW body) (stmtsW nameW calleeW rest) in
-      let inner : Plain (pack BODY 0 (length (stmtsW nameW calleeW body)) ∷ stmtsW nameW calleeW body) = (no-heading BODY 0 (length (stmtsW nameW calleeW body)) small (omega arith) refl, stmts-plain body (q .4) (omega arith)) in
-      (no-heading LOOP 0 p small (omega (arith, q .0)) refl, (no-heading INDEX 0 (nameW i) small (name-fits s few INDEX 0 small i (q .1)) refl,
-      plain-both (expW nameW 0 a) (expW nameW 0 b′ ++ ((pack BODY 0 (length (stmtsW nameW calleeW body)) ∷ stmtsW nameW calleeW body) ++ stmtsW nameW calleeW rest)) (exp-plain a (q .2) (omega arith)) (plain-both (expW nameW 0 b′) ((pack BODY 0 (length (stmtsW nameW calleeW body)) ∷ stmtsW nameW calleeW body) ++ stmtsW nameW calleeW rest) (exp-plain b′ (q .3) (omega arith)) (plain-both (pack BODY 0 (length (stmtsW nameW calleeW body)) ∷ stmtsW nameW calleeW body) (stmtsW nameW calleeW rest) inner (stmts-plain rest (q .5) (omega arith))))))
+      let inner : Plain (pack BODY 0 (length (stmtsW nameW calleeW body)) ∷ stmtsW nameW calleeW body) = (no-heading BODY 0 (length (stmtsW nameW calleeW body)) small (omega arith) refl, stmts-plain body (q .4) (omega arith)) in (
+        no-heading LOOP 0 p small (omega (arith, q .0)) refl,
+        (
+          no-heading INDEX 0 (nameW i) small (name-fits s few INDEX 0 small i (q .1)) refl,
+          plain-both (expW nameW 0 a) (expW nameW 0 b′ ++ ((pack BODY 0 (length (stmtsW nameW calleeW body)) ∷ stmtsW nameW calleeW body) ++ stmtsW nameW calleeW rest)) (exp-plain a (q .2) (omega arith)) (plain-both (expW nameW 0 b′) ((pack BODY 0 (length (stmtsW nameW calleeW body)) ∷ stmtsW nameW calleeW body) ++ stmtsW nameW calleeW rest) (exp-plain b′ (q .3) (omega arith)) (plain-both (pack BODY 0 (length (stmtsW nameW calleeW body)) ∷ stmtsW nameW calleeW body) (stmtsW nameW calleeW rest) inner (stmts-plain rest (q .5) (omega arith)))),
+        ),
+      )
 
 the-body : (s : List ℕ) → length s ≤ 16384 → (c : Stmts Name Name) → AllStmts (SpeltName s) (SpeltCall s) (length s) c → suc (length (stmtsW nameW calleeW c)) ≤ 16384 → Plain (pack BODY 0 (length (stmtsW nameW calleeW c)) ∷ stmtsW nameW calleeW c)
 unfolding Plain

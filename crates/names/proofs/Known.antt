@@ -98,9 +98,11 @@ module _ (s : List ℕ) (few : length s ≤ 16384) where
       let z : v + 0 ≡ v = omega arith in
       let y : v + 1 + length ds ≡ v + suc (length ds) = omega arith in
       let first : getD H v 0 ≡ portW K d = subst (λ i. getD H i 0 ≡ portW K d) z (sym (getD-drop v H 0 0) ∙ ap (λ l. getD l 0 0) e) in
-      let next : drop (v + 1) H ≡ map (portW K) ds ++ r = sym (drop-drop 1 v H) ∙ ap (drop 1) e in
-      (rw (first, head-of K (headOfSort (d .sort)) (nameW (d .name)) small (name-fits s few K (headOfSort (d .sort)) small (d .name) (q .0 .name))) (wire-head (d .sort)), omega arith,
-      ports-wanted H K ds us (v + 1) r (q .1) next (omega arith) (λ g. rw y (f (rw y at g))))
+      let next : drop (v + 1) H ≡ map (portW K) ds ++ r = sym (drop-drop 1 v H) ∙ ap (drop 1) e in (
+        rw (first, head-of K (headOfSort (d .sort)) (nameW (d .name)) small (name-fits s few K (headOfSort (d .sort)) small (d .name) (q .0 .name))) (wire-head (d .sort)),
+        omega arith,
+        ports-wanted H K ds us (v + 1) r (q .1) next (omega arith) (λ g. rw y (f (rw y at g))),
+      )
 
   none : (H : List ℕ) (v : ℕ) → Wanted H v []
   unfolding Wanted
@@ -148,8 +150,8 @@ module _ (s : List ℕ) (few : length s ≤ 16384) where
       want = length pre + 1 + length (B .generics);
       counts = rw (lead₁, lead₂, lead₃) refl;
       ports = ports-wanted H IN (B .inputs) (roles (B .outputs)) (length pre + 1 + length (B .generics)) (O ++ R) (q .names .inputs) from-inputs (omega (arith, sizes))
-        (λ g. subst (λ us. Wanted H (length pre + 1 + length (B .generics) + length (B .inputs)) us) (append-nil (roles (B .outputs)))
-        (ports-wanted H OUT (B .outputs) [] (length pre + 1 + length (B .generics) + length (B .inputs)) R (q .names .outputs) from-outputs (omega (arith, sizes)) (λ _. none H _)));
+          (λ g. subst (λ us. Wanted H (length pre + 1 + length (B .generics) + length (B .inputs)) us) (append-nil (roles (B .outputs)))
+          (ports-wanted H OUT (B .outputs) [] (length pre + 1 + length (B .generics) + length (B .inputs)) R (q .names .outputs) from-outputs (omega (arith, sizes)) (λ _. none H _)));
     }
 
   -- ---- the headings of all blocks
@@ -226,8 +228,8 @@ module _ (s : List ℕ) (few : length s ≤ 16384) where
     known = record {
       names = ap (map (lettersOf s)) N-list ∙ titles-spelt Bs q;
       heads = λ b {B} e.
-        let l : b < length (starts 4 Bs) = omega (arith, nth-below 7 Bs b e, starts-length 4 Bs) in
-        subst (λ i. Heads H i B) (sym (ap (λ f. getD f b 0) F-list ∙ List·getD-append (starts 4 Bs) _ 0 b l))
-        (all-heads H (3140 - (4 + length (listW headW Bs))) Bs (zeros 4) b H-list q (omega (arith, heads-short Bs q)) e);
+          let l : b < length (starts 4 Bs) = omega (arith, nth-below 7 Bs b e, starts-length 4 Bs) in
+          subst (λ i. Heads H i B) (sym (ap (λ f. getD f b 0) F-list ∙ List·getD-append (starts 4 Bs) _ 0 b l))
+          (all-heads H (3140 - (4 + length (listW headW Bs))) Bs (zeros 4) b H-list q (omega (arith, heads-short Bs q)) e);
       gates = rw H-list four-zeros;
     }

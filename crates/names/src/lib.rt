@@ -386,7 +386,14 @@ fn arguments_given(tape: &[u32], from: usize, end: usize, wanted: u32) -> usize
 }
 
 // What becomes of a name in an expression at a place of the tape: the number of its declaration.
-fn in_expression(text: &[u8], scope: &[u32], count: usize, until: &[usize], at: usize, word: u32) -> Named
+fn in_expression(
+    text: &[u8],
+    scope: &[u32],
+    count: usize,
+    until: &[usize],
+    at: usize,
+    word: u32,
+) -> Named
     requires { ⌜ length (now scope) ≤ 48 ⌝ }
     ensures { λ r. ⌜ Tells (nameStep (now (text .entry)) at (take count (now (scope .entry))) (now (until .entry)) word) r ⌝ }
 {
@@ -473,7 +480,11 @@ fn taken(text: &[u8], titles: &[u32], before: usize, word: u32) -> bool
         return true;
     }
     let found = find(text, titles, before, word);
-    if let Found::At(b) = found { true } else { false }
+    if let Found::At(b) = found {
+        true
+    } else {
+        false
+    }
 }
 
 // Whether a name is declared already.
@@ -481,7 +492,11 @@ fn declared_before(text: &[u8], scope: &[u32], count: usize, word: u32) -> bool
     ensures { λ r. ⌜ r ≡ isIn (lettersOf (now (text .entry)) word) (map (lettersOf (now (text .entry))) (take count (now (scope .entry)))) ⌝ }
 {
     let found = find(text, scope, count, word);
-    if let Found::At(b) = found { true } else { false }
+    if let Found::At(b) = found {
+        true
+    } else {
+        false
+    }
 }
 
 // The loops over an index end at `end` at the earliest.
@@ -573,7 +588,17 @@ fn on_index(text: &[u8], scope: &[u32], word: u32, spot: Spot) -> Step
 }
 
 // What a call's name stands for, if its counts are right; `from` is where its words begin.
-fn as_callee(text: &[u8], heads: &[u32], firsts: &[usize], titles: &[u32], blocks: usize, tape: &[u32], from: usize, end: usize, word: u32) -> Named
+fn as_callee(
+    text: &[u8],
+    heads: &[u32],
+    firsts: &[usize],
+    titles: &[u32],
+    blocks: usize,
+    tape: &[u32],
+    from: usize,
+    end: usize,
+    word: u32,
+) -> Named
     requires { ⌜ Rows (now heads) (now firsts) × (length (now titles) ≤ 64) × (end ≤ length (now tape)) ⌝ }
     ensures { λ r. ⌜ Tells (callStep (now (text .entry)) (now (heads .entry)) (now (firsts .entry)) (take blocks (now (titles .entry))) word (drop from (take end (now (tape .entry))))) r ⌝ }
 {
@@ -654,7 +679,19 @@ fn on_declared(text: &[u8], scope: &mut [u32], word: u32, spot: Spot) -> Step
 }
 
 // One word of the tape, at a place before `end`.
-fn take_word(text: &[u8], heads: &[u32], firsts: &[usize], titles: &[u32], known: usize, tape: &[u32], at: usize, end: usize, scope: &mut [u32], until: &mut [usize], spot: Spot) -> Step
+fn take_word(
+    text: &[u8],
+    heads: &[u32],
+    firsts: &[usize],
+    titles: &[u32],
+    known: usize,
+    tape: &[u32],
+    at: usize,
+    end: usize,
+    scope: &mut [u32],
+    until: &mut [usize],
+    spot: Spot,
+) -> Step
     requires { ⌜ Rows (now heads) (now firsts) × (length (now titles) ≤ 64) × (end ≤ length (now tape)) × (at < end) × (length (now scope) ≤ 48) ⌝ }
     ensures { λ r. ⌜ Says (turn (now (text .entry)) (now (heads .entry)) (now (firsts .entry)) (take known (now (titles .entry))) at (stateOf (now (scope .entry)) (now (until .entry)) spot) (getD (now (tape .entry)) at 0) (drop (at + 1) (take end (now (tape .entry))))) (r .turn) (stateOf (now (scope .exit)) (now (until .exit)) (r .spot)) ⌝ }
     ensures { λ r. ⌜ (length (now (scope .exit)) ≡ length (now (scope .entry))) × (length (now (until .exit)) ≡ length (now (until .entry))) ⌝ }
@@ -694,7 +731,17 @@ fn take_word(text: &[u8], heads: &[u32], firsts: &[usize], titles: &[u32], known
 }
 
 // Sweeps over the first `end` words of the tape.
-fn sweep_words(text: &[u8], heads: &[u32], firsts: &[usize], titles: &[u32], known: usize, tape: &mut [u32], end: usize, scope: &mut [u32], until: &mut [usize]) -> Named
+fn sweep_words(
+    text: &[u8],
+    heads: &[u32],
+    firsts: &[usize],
+    titles: &[u32],
+    known: usize,
+    tape: &mut [u32],
+    end: usize,
+    scope: &mut [u32],
+    until: &mut [usize],
+) -> Named
     requires { ⌜ Rows (now heads) (now firsts) × (length (now titles) ≤ 64) × (end ≤ length (now tape)) × (length (now scope) ≤ 48) ⌝ }
     ensures { λ r. ⌜ Swept (sweep (now (text .entry)) (now (heads .entry)) (now (firsts .entry)) (take known (now (titles .entry))) 0 (start (now (scope .entry)) (now (until .entry))) (take end (now (tape .entry)))) end (now (tape .entry)) (now (tape .exit)) r ⌝ }
 {
@@ -706,7 +753,19 @@ fn sweep_words(text: &[u8], heads: &[u32], firsts: &[usize], titles: &[u32], kno
     };
     let mut at: usize = 0;
     while at < end {
-        let r = take_word(text, heads, firsts, titles, known, tape, at, end, scope, until, spot);
+        let r = take_word(
+            text,
+            heads,
+            firsts,
+            titles,
+            known,
+            tape,
+            at,
+            end,
+            scope,
+            until,
+            spot,
+        );
         let t = r.turn;
         match t {
             Turn::Word(word) => {
@@ -836,7 +895,16 @@ fn main_block(text: &[u8], heads: &[u32], places: &[usize], titles: &[u32], know
 }
 
 // Resolves with rows that are lent, all zeros.
-fn resolve_with(text: &[u8], tape: &mut [u32], end: usize, heads: &mut [u32], places: &mut [usize], titles: &mut [u32], scope: &mut [u32], until: &mut [usize]) -> Named
+fn resolve_with(
+    text: &[u8],
+    tape: &mut [u32],
+    end: usize,
+    heads: &mut [u32],
+    places: &mut [usize],
+    titles: &mut [u32],
+    scope: &mut [u32],
+    until: &mut [usize],
+) -> Named
     requires { ⌜ Readable (now text) (now tape) end × (now heads ≡ replicate 3140 0) × (now places ≡ replicate 64 0) × (now titles ≡ replicate 64 0) × (now scope ≡ replicate 48 0) × (now until ≡ replicate 48 0) ⌝ }
     ensures { λ r. ⌜ ((Bs : Spelled) → Holds (now (text .entry)) (now (tape .entry)) end Bs → Resolves (now (text .entry)) Bs (now (tape .entry)) (now (tape .exit)) r) ⌝ }
 {
@@ -860,5 +928,14 @@ pub fn resolve(text: &[u8], tape: &mut [u32], end: usize) -> Named
     let mut titles = [0u32; 64];
     let mut scope = [0u32; 48];
     let mut until = [0usize; 48];
-    resolve_with(text, tape, end, &mut heads, &mut places, &mut titles, &mut scope, &mut until)
+    resolve_with(
+        text,
+        tape,
+        end,
+        &mut heads,
+        &mut places,
+        &mut titles,
+        &mut scope,
+        &mut until,
+    )
 }

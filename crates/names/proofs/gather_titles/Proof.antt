@@ -29,9 +29,12 @@ add-n : tie.Need-add-n Inv-loop μ-loop
 add-n c = record { fits = omega (arith, c .before .before .before .before .before .before .before .before .before .before .before .good, c .before .before .before .before .before .before .before .before .before .before .before .pre, c .before .before .before .before .before .before .before .before .loop .inv .0, c .before .before .before .before .before .before .before .loop-test .taken) }
 
 loop-again-2 : tie.Need-loop-again-2 Inv-loop μ-loop
-loop-again-2 c =
-    (omega (arith, c .before .before .before .before .before .before .before .before .loop .inv .0), ap length (c .before .before .keep .ensures) ∙ simp length-set (c .before .before .before .before .before .before .before .before .loop .inv .1), ap (λ h. put h (c .before .before .before .before .before .before .before .before .loop .n + 1) (titles (drop (c .before .before .before .before .before .before .before .before .loop .i + 1) (take (c .before .before .before .before .before .before .before .before .before .before .before .args .end) (c .before .before .before .before .before .before .before .before .before .before .before .args .tape .now))))) (c .before .before .keep .ensures) ∙ titles-keep (c .before .before .before .before .before .before .before .before .before .before .before .args .tape .now) (c .before .before .before .before .before .before .before .before .before .before .before .args .end) (c .before .before .before .before .before .before .before .before .loop .i) (c .before .before .before .before .before .before .before .before .before .before .before .pre) (c .before .before .before .before .before .before .before .loop-test .taken) _ (c .before .before .before .before .before .kind-of .ensures) (c .before .before .before .before .if1 .left) _ _ ∙ c .before .before .before .before .before .before .before .before .loop .inv .2,
-    titles-more (c .before .before .before .before .before .before .before .before .before .before .before .args .tape .now) (c .before .before .before .before .before .before .before .before .before .before .before .args .end) (c .before .before .before .before .before .before .before .before .loop .i) (c .before .before .before .before .before .before .before .before .before .before .before .pre) (c .before .before .before .before .before .before .before .loop-test .taken) _ (c .before .before .before .before .before .kind-of .ensures) (c .before .before .before .before .if1 .left) _ ∙ c .before .before .before .before .before .before .before .before .loop .inv .3)
+loop-again-2 c = (
+  omega (arith, c .before .before .before .before .before .before .before .before .loop .inv .0),
+  ap length (c .before .before .keep .ensures) ∙ simp length-set (c .before .before .before .before .before .before .before .before .loop .inv .1),
+  ap (λ h. put h (c .before .before .before .before .before .before .before .before .loop .n + 1) (titles (drop (c .before .before .before .before .before .before .before .before .loop .i + 1) (take (c .before .before .before .before .before .before .before .before .before .before .before .args .end) (c .before .before .before .before .before .before .before .before .before .before .before .args .tape .now))))) (c .before .before .keep .ensures) ∙ titles-keep (c .before .before .before .before .before .before .before .before .before .before .before .args .tape .now) (c .before .before .before .before .before .before .before .before .before .before .before .args .end) (c .before .before .before .before .before .before .before .before .loop .i) (c .before .before .before .before .before .before .before .before .before .before .before .pre) (c .before .before .before .before .before .before .before .loop-test .taken) _ (c .before .before .before .before .before .kind-of .ensures) (c .before .before .before .before .if1 .left) _ _ ∙ c .before .before .before .before .before .before .before .before .loop .inv .2,
+  titles-more (c .before .before .before .before .before .before .before .before .before .before .before .args .tape .now) (c .before .before .before .before .before .before .before .before .before .before .before .args .end) (c .before .before .before .before .before .before .before .before .loop .i) (c .before .before .before .before .before .before .before .before .before .before .before .pre) (c .before .before .before .before .before .before .before .loop-test .taken) _ (c .before .before .before .before .before .kind-of .ensures) (c .before .before .before .before .if1 .left) _ ∙ c .before .before .before .before .before .before .before .before .loop .inv .3,
+)
 
 same-length : tie.Need-same-length Inv-loop μ-loop
 same-length c = c .before .loop .inv .1

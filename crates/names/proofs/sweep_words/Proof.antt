@@ -53,10 +53,14 @@ loop-less c = omega (arith, c .before .before .before .before .before .before .b
 loop-again : tie.Need-loop-again Inv-loop μ-loop
 loop-again c =
     let i = c .before .before .before .before .before .before .before .before .before .before .before .before .before .loop .inv in
-    let le : c .before .before .before .before .before .before .before .before .before .before .before .before .before .before .before .before .before .before .before .before .before .args .end ≤ length (c .before .before .before .before .before .before .before .before .before .before .before .before .before .loop .tape) = omega (arith, c .before .before .before .before .before .before .before .before .before .before .before .before .before .before .before .before .before .before .before .before .before .pre .2) in
-    (omega (arith, c .before .before .before .before .before .before .before .before .before .before .before .before .loop-test .taken), simp length-set (i .1), c .before .before .before .before .before .before .before .before .take-word .ensures .1 .0 ∙ i .2, c .before .before .before .before .before .before .before .before .take-word .ensures .1 .1 ∙ i .3,
-    goes-same (c .before .before .before .before .before .before .before .before .before .before .before .before .before .before .before .before .before .before .before .before .before .args .text .now) (c .before .before .before .before .before .before .before .before .before .before .before .before .before .before .before .before .before .before .before .before .before .args .heads .now) (c .before .before .before .before .before .before .before .before .before .before .before .before .before .before .before .before .before .before .before .before .before .args .firsts .now) (take (c .before .before .before .before .before .before .before .before .before .before .before .before .before .before .before .before .before .before .before .before .before .args .known) (c .before .before .before .before .before .before .before .before .before .before .before .before .before .before .before .before .before .before .before .before .before .args .titles .now)) (c .before .before .before .before .before .before .before .before .before .before .before .before .before .before .before .before .before .before .before .before .before .args .end) (c .before .before .before .before .before .before .before .before .before .before .before .before .before .loop .at) (stateOf (c .before .before .before .before .before .before .before .before .before .before .before .before .before .loop .scope) (c .before .before .before .before .before .before .before .before .before .before .before .before .before .loop .until) (c .before .before .before .before .before .before .before .before .before .before .before .before .before .loop .spot)) (start (c .before .before .before .before .before .before .before .before .before .before .before .before .before .before .before .before .before .before .before .before .before .args .scope .now) (c .before .before .before .before .before .before .before .before .before .before .before .before .before .before .before .before .before .before .before .before .before .args .until .now)) (c .before .before .before .before .before .before .before .before .before .before .before .before .before .loop .tape) (c .before .before .before .before .before .before .before .before .before .before .before .before .before .before .before .before .before .before .before .before .before .args .tape .now) (i .1) le (c .before .before .before .before .before .before .before .before .before .before .before .before .loop-test .taken) (i .4) (i .5) _,
-    goes (c .before .before .before .before .before .before .before .before .before .before .before .before .before .before .before .before .before .before .before .before .before .args .text .now) (c .before .before .before .before .before .before .before .before .before .before .before .before .before .before .before .before .before .before .before .before .before .args .heads .now) (c .before .before .before .before .before .before .before .before .before .before .before .before .before .before .before .before .before .before .before .before .before .args .firsts .now) (take (c .before .before .before .before .before .before .before .before .before .before .before .before .before .before .before .before .before .before .before .before .before .args .known) (c .before .before .before .before .before .before .before .before .before .before .before .before .before .before .before .before .before .before .before .before .before .args .titles .now)) (c .before .before .before .before .before .before .before .before .before .before .before .before .before .before .before .before .before .before .before .before .before .args .end) (c .before .before .before .before .before .before .before .before .before .before .before .before .before .loop .at) (stateOf (c .before .before .before .before .before .before .before .before .before .before .before .before .before .loop .scope) (c .before .before .before .before .before .before .before .before .before .before .before .before .before .loop .until) (c .before .before .before .before .before .before .before .before .before .before .before .before .before .loop .spot)) (start (c .before .before .before .before .before .before .before .before .before .before .before .before .before .before .before .before .before .before .before .before .before .args .scope .now) (c .before .before .before .before .before .before .before .before .before .before .before .before .before .before .before .before .before .before .before .before .before .args .until .now)) (c .before .before .before .before .before .before .before .before .before .before .before .before .before .loop .tape) (c .before .before .before .before .before .before .before .before .before .before .before .before .before .before .before .before .before .before .before .before .before .args .tape .now) (i .1) le (c .before .before .before .before .before .before .before .before .before .before .before .before .loop-test .taken) (i .4) (i .5) (says-word (turn (c .before .before .before .before .before .before .before .before .before .before .before .before .before .before .before .before .before .before .before .before .before .args .text .now) (c .before .before .before .before .before .before .before .before .before .before .before .before .before .before .before .before .before .before .before .before .before .args .heads .now) (c .before .before .before .before .before .before .before .before .before .before .before .before .before .before .before .before .before .before .before .before .before .args .firsts .now) (take (c .before .before .before .before .before .before .before .before .before .before .before .before .before .before .before .before .before .before .before .before .before .args .known) (c .before .before .before .before .before .before .before .before .before .before .before .before .before .before .before .before .before .before .before .before .before .args .titles .now)) (c .before .before .before .before .before .before .before .before .before .before .before .before .before .loop .at) (stateOf (c .before .before .before .before .before .before .before .before .before .before .before .before .before .loop .scope) (c .before .before .before .before .before .before .before .before .before .before .before .before .before .loop .until) (c .before .before .before .before .before .before .before .before .before .before .before .before .before .loop .spot)) (getD (c .before .before .before .before .before .before .before .before .before .before .before .before .before .loop .tape) (c .before .before .before .before .before .before .before .before .before .before .before .before .before .loop .at) 0) (drop (c .before .before .before .before .before .before .before .before .before .before .before .before .before .loop .at + 1) (take (c .before .before .before .before .before .before .before .before .before .before .before .before .before .before .before .before .before .before .before .before .before .args .end) (c .before .before .before .before .before .before .before .before .before .before .before .before .before .loop .tape)))) _ _ (c .before .before .before .before .before .before .before .before .take-word .ensures .0) (c .before .before .t .given .1)))
+    let le : c .before .before .before .before .before .before .before .before .before .before .before .before .before .before .before .before .before .before .before .before .before .args .end ≤ length (c .before .before .before .before .before .before .before .before .before .before .before .before .before .loop .tape) = omega (arith, c .before .before .before .before .before .before .before .before .before .before .before .before .before .before .before .before .before .before .before .before .before .pre .2) in (
+      omega (arith, c .before .before .before .before .before .before .before .before .before .before .before .before .loop-test .taken),
+      simp length-set (i .1),
+      c .before .before .before .before .before .before .before .before .take-word .ensures .1 .0 ∙ i .2,
+      c .before .before .before .before .before .before .before .before .take-word .ensures .1 .1 ∙ i .3,
+      goes-same (c .before .before .before .before .before .before .before .before .before .before .before .before .before .before .before .before .before .before .before .before .before .args .text .now) (c .before .before .before .before .before .before .before .before .before .before .before .before .before .before .before .before .before .before .before .before .before .args .heads .now) (c .before .before .before .before .before .before .before .before .before .before .before .before .before .before .before .before .before .before .before .before .before .args .firsts .now) (take (c .before .before .before .before .before .before .before .before .before .before .before .before .before .before .before .before .before .before .before .before .before .args .known) (c .before .before .before .before .before .before .before .before .before .before .before .before .before .before .before .before .before .before .before .before .before .args .titles .now)) (c .before .before .before .before .before .before .before .before .before .before .before .before .before .before .before .before .before .before .before .before .before .args .end) (c .before .before .before .before .before .before .before .before .before .before .before .before .before .loop .at) (stateOf (c .before .before .before .before .before .before .before .before .before .before .before .before .before .loop .scope) (c .before .before .before .before .before .before .before .before .before .before .before .before .before .loop .until) (c .before .before .before .before .before .before .before .before .before .before .before .before .before .loop .spot)) (start (c .before .before .before .before .before .before .before .before .before .before .before .before .before .before .before .before .before .before .before .before .before .args .scope .now) (c .before .before .before .before .before .before .before .before .before .before .before .before .before .before .before .before .before .before .before .before .before .args .until .now)) (c .before .before .before .before .before .before .before .before .before .before .before .before .before .loop .tape) (c .before .before .before .before .before .before .before .before .before .before .before .before .before .before .before .before .before .before .before .before .before .args .tape .now) (i .1) le (c .before .before .before .before .before .before .before .before .before .before .before .before .loop-test .taken) (i .4) (i .5) _,
+      goes (c .before .before .before .before .before .before .before .before .before .before .before .before .before .before .before .before .before .before .before .before .before .args .text .now) (c .before .before .before .before .before .before .before .before .before .before .before .before .before .before .before .before .before .before .before .before .before .args .heads .now) (c .before .before .before .before .before .before .before .before .before .before .before .before .before .before .before .before .before .before .before .before .before .args .firsts .now) (take (c .before .before .before .before .before .before .before .before .before .before .before .before .before .before .before .before .before .before .before .before .before .args .known) (c .before .before .before .before .before .before .before .before .before .before .before .before .before .before .before .before .before .before .before .before .before .args .titles .now)) (c .before .before .before .before .before .before .before .before .before .before .before .before .before .before .before .before .before .before .before .before .before .args .end) (c .before .before .before .before .before .before .before .before .before .before .before .before .before .loop .at) (stateOf (c .before .before .before .before .before .before .before .before .before .before .before .before .before .loop .scope) (c .before .before .before .before .before .before .before .before .before .before .before .before .before .loop .until) (c .before .before .before .before .before .before .before .before .before .before .before .before .before .loop .spot)) (start (c .before .before .before .before .before .before .before .before .before .before .before .before .before .before .before .before .before .before .before .before .before .args .scope .now) (c .before .before .before .before .before .before .before .before .before .before .before .before .before .before .before .before .before .before .before .before .before .args .until .now)) (c .before .before .before .before .before .before .before .before .before .before .before .before .before .loop .tape) (c .before .before .before .before .before .before .before .before .before .before .before .before .before .before .before .before .before .before .before .before .before .args .tape .now) (i .1) le (c .before .before .before .before .before .before .before .before .before .before .before .before .loop-test .taken) (i .4) (i .5) (says-word (turn (c .before .before .before .before .before .before .before .before .before .before .before .before .before .before .before .before .before .before .before .before .before .args .text .now) (c .before .before .before .before .before .before .before .before .before .before .before .before .before .before .before .before .before .before .before .before .before .args .heads .now) (c .before .before .before .before .before .before .before .before .before .before .before .before .before .before .before .before .before .before .before .before .before .args .firsts .now) (take (c .before .before .before .before .before .before .before .before .before .before .before .before .before .before .before .before .before .before .before .before .before .args .known) (c .before .before .before .before .before .before .before .before .before .before .before .before .before .before .before .before .before .before .before .before .before .args .titles .now)) (c .before .before .before .before .before .before .before .before .before .before .before .before .before .loop .at) (stateOf (c .before .before .before .before .before .before .before .before .before .before .before .before .before .loop .scope) (c .before .before .before .before .before .before .before .before .before .before .before .before .before .loop .until) (c .before .before .before .before .before .before .before .before .before .before .before .before .before .loop .spot)) (getD (c .before .before .before .before .before .before .before .before .before .before .before .before .before .loop .tape) (c .before .before .before .before .before .before .before .before .before .before .before .before .before .loop .at) 0) (drop (c .before .before .before .before .before .before .before .before .before .before .before .before .before .loop .at + 1) (take (c .before .before .before .before .before .before .before .before .before .before .before .before .before .before .before .before .before .before .before .before .before .args .end) (c .before .before .before .before .before .before .before .before .before .before .before .before .before .loop .tape)))) _ _ (c .before .before .before .before .before .before .before .before .take-word .ensures .0) (c .before .before .t .given .1)),
+    )
 
 same-length-4 : tie.Need-same-length-4 Inv-loop μ-loop
 same-length-4 c = c .before .loop .inv .1
