@@ -1,6 +1,12 @@
 // Names: answers 6 to 9 (01, "Numbers of the answers"), and every name of a tape becomes the number of its declaration.
 // Cost: a name is compared with at most 48 declared ones, and a block's or a call's name with at most 10 primitives and 64 blocks;
 // a call's words are looked at three times more, and its heading's at most 48 words once.
+use sweep::Found;
+use sweep::Heading;
+use sweep::Named;
+use sweep::Spot;
+use sweep::Step;
+use sweep::Turn;
 use tape::Kind;
 ghost use mathlib.Core.Path.{_≡_};
 ghost use mathlib.Core.Bool.{Bool, _&&_, _||_};
@@ -8,7 +14,7 @@ ghost use mathlib.Core.List.{List, [], map, _++_};
 ghost use Prim.Native.Nat.{ℕ, _+_, _*_, _-_, _<_, _≤_, min, max};
 ghost use lib.ListN.{length, take, drop, getD, set, replicate};
 ghost use Rattle.rules.specs.Syntax.{Spelled};
-ghost use Rattle.names.specs.Resolves.{Holds, Readable, Resolves};
+ghost use Rattle.sweep.specs.Resolves.{Holds, Readable, Resolves};
 ghost use lib.Dec.{eqb, ltb};
 ghost use Rattle.rules.specs.Text.{pick, same, indexOf, isIn, bytes};
 ghost use Rattle.rules.specs.Names.{isIndex};
@@ -16,50 +22,8 @@ ghost use Rattle.rules.specs.Outcome.{Out, ok};
 ghost use Rattle.rules.specs.Primitives.{inputsOf, primitiveNames};
 ghost use Rattle.tape.specs.Layout.{kindOf, headIn, valueOf};
 ghost use Rattle.tape.specs.Written.{put};
-ghost use Rattle.names.specs.Spelling.{placeOf, lettersOf, valued, roleIn, roleNumber};
-ghost use Rattle.names.specs.Sweep.{heading, headings, firsts, titles, leading, headingAt, headingOf, genericsGiven, inCall, given, standing, sortFits, shapeFits, nameStep, argumentStep, indexStep, calleeIn, countsFit, callStep, blockStep, turn, sweep, mainIn, Tells, Finds, Says, Small, Answers, Swept, Rows, stateOf, start, declareStep, after, called, argued, indexed, entered, begun, declares};
-
-// What is known where a word stands, beside the words of the declared names and the ends of loops.
-pub struct Spot {
-    // How many names its block declared so far.
-    pub count: usize,
-    // The index of the loop whose body is next; 48 for a block's body.
-    pub index: usize,
-    // Where among the headings the port stands that the next argument is for.
-    pub want: usize,
-    // How many blocks have begun.
-    pub blocks: usize,
-}
-
-// What a call wants, and where among the headings its ports begin.
-pub struct Heading {
-    pub generics: usize,
-    pub inputs: usize,
-    pub outputs: usize,
-    pub want: usize,
-}
-
-// A number, or a refusal's number and place.
-pub enum Named {
-    Done(usize),
-    No(usize, usize),
-}
-
-pub enum Found {
-    At(usize),
-    Nothing,
-}
-
-// What a word becomes, or a refusal's number and place.
-pub enum Turn {
-    Word(u32),
-    Halt(usize, usize),
-}
-
-pub struct Step {
-    pub turn: Turn,
-    pub spot: Spot,
-}
+ghost use Rattle.sweep.specs.Spelling.{placeOf, lettersOf, valued, roleIn, roleNumber};
+ghost use Rattle.sweep.specs.Sweep.{heading, headings, firsts, titles, leading, headingAt, headingOf, genericsGiven, inCall, given, standing, sortFits, shapeFits, nameStep, argumentStep, indexStep, calleeIn, countsFit, callStep, blockStep, turn, sweep, mainIn, Tells, Finds, Says, Small, Answers, Swept, Rows, stateOf, start, declareStep, after, called, argued, indexed, entered, begun, declares};
 
 fn least(a: usize, b: usize) -> usize
     ensures { λ r. ⌜ r ≡ min a b ⌝ }

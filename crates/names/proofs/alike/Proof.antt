@@ -4,7 +4,7 @@ use mathlib.Core.Path.{_≡_, refl, sym, _∙_}
 use native.Mathlib.Omega.{arith}
 use lib.ListN.{length, drop}
 use Rattle.rules.specs.Text.{same}
-use Rattle.names.proofs.Leaves.{other-length, step-no, step-yes, at-end}
+use Rattle.sweep.specs.Laws.Leaves.{other-length, step-no, step-yes, at-end}
 use borrow.Author.Needs.{needs}
 use Rattle.names.proofs.alike.Statement.{statement}
 use Rattle.names.proofs.alike.Tie as tie

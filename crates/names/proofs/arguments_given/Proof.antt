@@ -4,8 +4,8 @@ use mathlib.Core.Path.{_≡_, sym, _∙_}
 use native.Mathlib.Omega.{arith}
 use lib.ListN.{drop, take}
 use borrow.Author.Tests.{not-true, not-false}
-use Rattle.names.specs.Sweep.{given}
-use Rattle.names.proofs.Counts.{given-more, given-stop, given-end}
+use Rattle.sweep.specs.Sweep.{given}
+use Rattle.sweep.specs.Laws.Counts.{given-more, given-stop, given-end}
 use borrow.Author.Needs.{needs}
 use Rattle.names.proofs.arguments_given.Statement.{statement}
 use Rattle.names.proofs.arguments_given.Tie as tie

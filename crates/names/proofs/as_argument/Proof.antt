@@ -1,6 +1,6 @@
 -- `names::as_argument` meets its contract. Assumes nothing.
 use borrow.Author.Tests.{not-true, not-false}
-use Rattle.names.proofs.Steps.{argument-unknown, sort-bars, shape-bars, shape-stands}
+use Rattle.sweep.specs.Laws.Steps.{argument-unknown, sort-bars, shape-bars, shape-stands}
 use borrow.Author.Needs.{needs}
 use Rattle.names.proofs.as_argument.Statement.{statement}
 use Rattle.names.proofs.as_argument.Tie as tie

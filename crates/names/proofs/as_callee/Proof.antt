@@ -1,5 +1,5 @@
 -- `names::as_callee` meets its contract. Assumes nothing.
-use Rattle.names.proofs.Steps.{call-no, call-fits, call-bars}
+use Rattle.sweep.specs.Laws.Steps.{call-no, call-fits, call-bars}
 use borrow.Author.Needs.{needs}
 use Rattle.names.proofs.as_callee.Statement.{statement}
 use Rattle.names.proofs.as_callee.Tie as tie

@@ -1,5 +1,5 @@
 -- `names::as_index` meets its contract. Assumes nothing.
-use Rattle.names.proofs.Steps.{index-unknown, index-bars, index-stands}
+use Rattle.sweep.specs.Laws.Steps.{index-unknown, index-bars, index-stands}
 use borrow.Author.Needs.{needs}
 use Rattle.names.proofs.as_index.Statement.{statement}
 use Rattle.names.proofs.as_index.Tie as tie

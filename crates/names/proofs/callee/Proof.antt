@@ -1,6 +1,6 @@
 -- `names::callee` meets its contract. Assumes nothing.
 use native.Mathlib.Omega.{arith}
-use Rattle.names.proofs.Steps.{callee-gate, callee-none, callee-block, below-all, seen-at}
+use Rattle.sweep.specs.Laws.Steps.{callee-gate, callee-none, callee-block, below-all, seen-at}
 use borrow.Author.Needs.{needs}
 use Rattle.names.proofs.callee.Statement.{statement}
 use Rattle.names.proofs.callee.Tie as tie

@@ -1,5 +1,5 @@
 -- `names::counts_fit` meets its contract. Assumes nothing.
-use Rattle.names.proofs.Counts.{no-generics, no-inputs, all-counts}
+use Rattle.sweep.specs.Laws.Counts.{no-generics, no-inputs, all-counts}
 use borrow.Author.Needs.{needs}
 use Rattle.names.proofs.counts_fit.Statement.{statement}
 use Rattle.names.proofs.counts_fit.Tie as tie

@@ -1,5 +1,5 @@
 -- `names::declared_before` meets its contract. Assumes nothing.
-use Rattle.names.proofs.Steps.{is-in, is-not-in}
+use Rattle.sweep.specs.Laws.Steps.{is-in, is-not-in}
 use borrow.Author.Needs.{needs}
 use Rattle.names.proofs.declared_before.Statement.{statement}
 use Rattle.names.proofs.declared_before.Tie as tie

@@ -5,8 +5,8 @@ use native.Mathlib.Omega.{arith}
 use mathlib.Core.List.{map}
 use lib.ListN.{length, take, drop}
 use Rattle.rules.specs.Text.{bytes, same, indexOf}
-use Rattle.names.specs.Spelling.{lettersOf}
-use Rattle.names.proofs.Leaves.{from-start, found-here, not-here, found-none}
+use Rattle.sweep.specs.Spelling.{lettersOf}
+use Rattle.sweep.specs.Laws.Leaves.{from-start, found-here, not-here, found-none}
 use borrow.Author.Needs.{needs}
 use Rattle.names.proofs.find_main.Statement.{statement}
 use Rattle.names.proofs.find_main.Tie as tie

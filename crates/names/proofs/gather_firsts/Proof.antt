@@ -5,8 +5,8 @@ use native.Mathlib.Omega.{arith}
 use lib.ListN.{length, take, drop, length-set}
 use borrow.Author.Tests.{not-true, not-false}
 use Rattle.tape.specs.Written.{put}
-use Rattle.names.specs.Sweep.{firsts}
-use Rattle.names.proofs.Gather.{firsts-skip, firsts-pass, firsts-keep, firsts-end}
+use Rattle.sweep.specs.Sweep.{firsts}
+use Rattle.sweep.specs.Laws.Gather.{firsts-skip, firsts-pass, firsts-keep, firsts-end}
 use borrow.Author.Needs.{needs}
 use Rattle.names.proofs.gather_firsts.Statement.{statement}
 use Rattle.names.proofs.gather_firsts.Tie as tie

@@ -5,8 +5,8 @@ use native.Mathlib.Omega.{arith}
 use lib.ListN.{length, take, drop, length-set}
 use borrow.Author.Tests.{not-true, not-false}
 use Rattle.tape.specs.Written.{put}
-use Rattle.names.specs.Sweep.{headings}
-use Rattle.names.proofs.Gather.{heads-skip, heads-keep, heads-end}
+use Rattle.sweep.specs.Sweep.{headings}
+use Rattle.sweep.specs.Laws.Gather.{heads-skip, heads-keep, heads-end}
 use borrow.Author.Needs.{needs}
 use Rattle.names.proofs.gather_heads.Statement.{statement}
 use Rattle.names.proofs.gather_heads.Tie as tie

@@ -5,8 +5,8 @@ use native.Mathlib.Omega.{arith}
 use lib.ListN.{length, take, drop, length-set}
 use borrow.Author.Tests.{not-true, not-false}
 use Rattle.tape.specs.Written.{put}
-use Rattle.names.specs.Sweep.{titles}
-use Rattle.names.proofs.Gather.{titles-skip, titles-keep, titles-more, titles-end, titles-none}
+use Rattle.sweep.specs.Sweep.{titles}
+use Rattle.sweep.specs.Laws.Gather.{titles-skip, titles-keep, titles-more, titles-end, titles-none}
 use borrow.Author.Needs.{needs}
 use Rattle.names.proofs.gather_titles.Statement.{statement}
 use Rattle.names.proofs.gather_titles.Tie as tie

@@ -3,8 +3,8 @@ use Prim.Native.Nat.{_-_, _≤_, _+_}
 use mathlib.Core.Path.{_≡_, sym, _∙_}
 use native.Mathlib.Omega.{arith}
 use lib.ListN.{drop, take}
-use Rattle.names.specs.Sweep.{genericsGiven}
-use Rattle.names.proofs.Counts.{generics-stop, generics-inside, generics-more, generics-end}
+use Rattle.sweep.specs.Sweep.{genericsGiven}
+use Rattle.sweep.specs.Laws.Counts.{generics-stop, generics-inside, generics-more, generics-end}
 use borrow.Author.Needs.{needs}
 use Rattle.names.proofs.generics_given.Statement.{statement}
 use Rattle.names.proofs.generics_given.Tie as tie

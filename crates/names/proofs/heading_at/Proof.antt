@@ -1,6 +1,6 @@
 -- `names::heading_at` meets its contract. Assumes nothing.
-use Rattle.names.specs.Sweep.{headingAt}
-use Rattle.names.proofs.Counts.{made-heading}
+use Rattle.sweep.specs.Sweep.{headingAt}
+use Rattle.sweep.specs.Laws.Counts.{made-heading}
 use borrow.Author.Needs.{needs}
 use Rattle.names.proofs.heading_at.Statement.{statement}
 use Rattle.names.proofs.heading_at.Tie as tie

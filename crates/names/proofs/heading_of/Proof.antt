@@ -1,7 +1,7 @@
 -- `names::heading_of` meets its contract. Assumes nothing.
 use native.Mathlib.Omega.{arith}
 use Prim.Native.Nat.{_-_}
-use Rattle.names.proofs.Counts.{gate-heading, block-heading}
+use Rattle.sweep.specs.Laws.Counts.{gate-heading, block-heading}
 use borrow.Author.Needs.{needs}
 use Rattle.names.proofs.heading_of.Statement.{statement}
 use Rattle.names.proofs.heading_of.Tie as tie

@@ -1,7 +1,7 @@
 -- `names::in_call` meets its contract. Assumes nothing.
 use Rattle.rules.specs.Text.{pick}
 use borrow.Author.Tests.{eq-eqb, ne-eqb}
-use Rattle.names.specs.Sweep.{inCall}
+use Rattle.sweep.specs.Sweep.{inCall}
 use Rattle.names.proofs.in_call.Statement.{statement}
 use Rattle.names.proofs.in_call.Tie as tie
 

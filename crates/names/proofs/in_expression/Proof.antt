@@ -1,5 +1,5 @@
 -- `names::in_expression` meets its contract. Assumes nothing.
-use Rattle.names.proofs.Steps.{name-unknown, name-bars, name-stands}
+use Rattle.sweep.specs.Laws.Steps.{name-unknown, name-bars, name-stands}
 use borrow.Author.Needs.{needs}
 use Rattle.names.proofs.in_expression.Statement.{statement}
 use Rattle.names.proofs.in_expression.Tie as tie

@@ -1,5 +1,5 @@
 -- `names::is_index` meets its contract. Assumes nothing.
-use Rattle.names.proofs.Leaves.{is-index}
+use Rattle.sweep.specs.Laws.Leaves.{is-index}
 use borrow.Author.Needs.{needs}
 use Rattle.names.proofs.is_index.Statement.{statement}
 use Rattle.names.proofs.is_index.Tie as tie

@@ -3,8 +3,8 @@ use Prim.Native.Nat.{_-_, _≤_, _+_}
 use mathlib.Core.Path.{_≡_}
 use native.Mathlib.Omega.{arith}
 use lib.ListN.{length, drop}
-use Rattle.names.specs.Sweep.{leading}
-use Rattle.names.proofs.Counts.{lead-more, lead-stop, lead-end}
+use Rattle.sweep.specs.Sweep.{leading}
+use Rattle.sweep.specs.Laws.Counts.{lead-more, lead-stop, lead-end}
 use borrow.Author.Needs.{needs}
 use Rattle.names.proofs.leading_words.Statement.{statement}
 use Rattle.names.proofs.leading_words.Tie as tie

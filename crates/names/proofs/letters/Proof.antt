@@ -1,5 +1,5 @@
 -- `names::letters` meets its contract. Assumes nothing.
-use Rattle.names.proofs.Leaves.{letters-clipped}
+use Rattle.sweep.specs.Laws.Leaves.{letters-clipped}
 use borrow.Author.Needs.{needs}
 use Rattle.names.proofs.letters.Statement.{statement}
 use Rattle.names.proofs.letters.Tie as tie

@@ -1,6 +1,6 @@
 -- `names::main_block` meets its contract. Assumes nothing.
 use native.Mathlib.Omega.{arith}
-use Rattle.names.proofs.Gather.{main-missing, main-generic, main-plain}
+use Rattle.sweep.specs.Laws.Gather.{main-missing, main-generic, main-plain}
 use borrow.Author.Needs.{needs}
 use Rattle.names.proofs.main_block.Statement.{statement}
 use Rattle.names.proofs.main_block.Tie as tie

@@ -1,6 +1,6 @@
 -- `names::on_block` meets its contract. Assumes nothing.
 use mathlib.Core.Path.{_≡_, ap, _∙_}
-use Rattle.names.proofs.Steps.{block-bars, block-begins}
+use Rattle.sweep.specs.Laws.Steps.{block-bars, block-begins}
 use borrow.Author.Needs.{needs}
 use Rattle.names.proofs.on_block.Statement.{statement}
 use Rattle.names.proofs.on_block.Tie as tie

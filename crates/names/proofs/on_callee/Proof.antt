@@ -1,7 +1,7 @@
 -- `names::on_callee` meets its contract. Assumes nothing.
 use mathlib.Core.Path.{_≡_, refl, ap, _∙_}
 use native.Mathlib.Omega.{arith}
-use Rattle.names.proofs.Steps.{then-no, then-state, tells-done, tells-no, small-done}
+use Rattle.sweep.specs.Laws.Steps.{then-no, then-state, tells-done, tells-no, small-done}
 use borrow.Author.Needs.{needs}
 use Rattle.names.proofs.on_callee.Statement.{statement}
 use Rattle.names.proofs.on_callee.Tie as tie

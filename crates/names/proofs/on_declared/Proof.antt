@@ -1,7 +1,7 @@
 -- `names::on_declared` meets its contract. Assumes nothing.
 use mathlib.Core.Path.{_≡_, refl, ap, _∙_}
 use lib.ListN.{length, take, length-set}
-use Rattle.names.proofs.Steps.{declare-bars, declare-once}
+use Rattle.sweep.specs.Laws.Steps.{declare-bars, declare-once}
 use borrow.Author.Needs.{needs}
 use Rattle.names.proofs.on_declared.Statement.{statement}
 use Rattle.names.proofs.on_declared.Tie as tie

@@ -1,7 +1,7 @@
 -- `names::on_name` meets its contract. Assumes nothing.
 use mathlib.Core.Path.{_≡_, refl}
 use native.Mathlib.Omega.{arith}
-use Rattle.names.proofs.Steps.{then-no, then-state, tells-done, tells-no}
+use Rattle.sweep.specs.Laws.Steps.{then-no, then-state, tells-done, tells-no}
 use borrow.Author.Needs.{needs}
 use Rattle.names.proofs.on_name.Statement.{statement}
 use Rattle.names.proofs.on_name.Tie as tie

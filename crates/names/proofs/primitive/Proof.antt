@@ -6,8 +6,8 @@ use native.Mathlib.Omega.{arith}
 use lib.ListN.{take, drop}
 use Rattle.rules.specs.Text.{bytes, indexOf}
 use Rattle.rules.specs.Primitives.{primitiveNames}
-use Rattle.names.specs.Spelling.{lettersOf}
-use Rattle.names.proofs.Leaves.{here, missed, next, ends}
+use Rattle.sweep.specs.Spelling.{lettersOf}
+use Rattle.sweep.specs.Laws.Leaves.{here, missed, next, ends}
 use borrow.Author.Needs.{needs}
 use Rattle.names.proofs.primitive.Statement.{statement}
 use Rattle.names.proofs.primitive.Tie as tie

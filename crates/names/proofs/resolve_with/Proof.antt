@@ -3,7 +3,7 @@ use native.Mathlib.Omega.{arith}
 use mathlib.Core.Path.{_≡_, ap, _∙_}
 use Prim.Native.Nat.{_≤_}
 use lib.ListN.{length}
-use Rattle.names.proofs.Whole.{lent-rows, lent-no, lent-main, row-64, row-48, tape-there}
+use Rattle.sweep.specs.Laws.Whole.{lent-rows, lent-no, lent-main, row-64, row-48, tape-there}
 use borrow.Author.Needs.{needs}
 use Rattle.names.proofs.resolve_with.Statement.{statement}
 use Rattle.names.proofs.resolve_with.Tie as tie

@@ -1,5 +1,5 @@
 -- `names::role_of` meets its contract. Assumes nothing.
-use Rattle.names.proofs.Leaves.{role-generic, role-low, role-high}
+use Rattle.sweep.specs.Laws.Leaves.{role-generic, role-low, role-high}
 use borrow.Author.Needs.{needs}
 use Rattle.names.proofs.role_of.Statement.{statement}
 use Rattle.names.proofs.role_of.Tie as tie

@@ -1,5 +1,5 @@
 -- `names::shape_fits` meets its contract. Assumes nothing.
-use Rattle.names.proofs.Leaves.{part-shape, wire-shape, vector-shape}
+use Rattle.sweep.specs.Laws.Leaves.{part-shape, wire-shape, vector-shape}
 use borrow.Author.Needs.{needs}
 use Rattle.names.proofs.shape_fits.Statement.{statement}
 use Rattle.names.proofs.shape_fits.Tie as tie

@@ -1,5 +1,5 @@
 -- `names::sort_fits` meets its contract. Assumes nothing.
-use Rattle.names.proofs.Leaves.{whole-sort, part-sort}
+use Rattle.sweep.specs.Laws.Leaves.{whole-sort, part-sort}
 use borrow.Author.Needs.{needs}
 use Rattle.names.proofs.sort_fits.Statement.{statement}
 use Rattle.names.proofs.sort_fits.Tie as tie

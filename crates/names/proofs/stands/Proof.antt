@@ -1,5 +1,5 @@
 -- `names::stands` meets its contract. Assumes nothing.
-use Rattle.names.proofs.Leaves.{stands-generic, stands-index, stands-not}
+use Rattle.sweep.specs.Laws.Leaves.{stands-generic, stands-index, stands-not}
 use borrow.Author.Needs.{needs}
 use Rattle.names.proofs.stands.Statement.{statement}
 use Rattle.names.proofs.stands.Tie as tie

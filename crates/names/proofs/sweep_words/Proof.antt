@@ -4,8 +4,8 @@ use Prim.Native.Nat.{_+_, _-_, _≤_, _<_}
 use mathlib.Core.Path.{_≡_, refl, sym, ap, _∙_}
 use native.Mathlib.Omega.{arith}
 use lib.ListN.{length, getD, set, take, drop, length-set}
-use Rattle.names.specs.Sweep.{stateOf, start, turn, sweep, onto}
-use Rattle.names.proofs.Turns.{says-word, says-halt, halts, goes, goes-same, begins, finished, after-end}
+use Rattle.sweep.specs.Sweep.{stateOf, start, turn, sweep, onto}
+use Rattle.sweep.specs.Laws.Turns.{says-word, says-halt, halts, goes, goes-same, begins, finished, after-end}
 use borrow.Author.Needs.{needs}
 use Rattle.names.proofs.sweep_words.Statement.{statement}
 use Rattle.names.proofs.sweep_words.Tie as tie

@@ -2,9 +2,9 @@
 use mathlib.Core.Path.{_≡_, refl, ap, _∙_}
 use Prim.Native.Nat.{_+_}
 use lib.ListN.{length, getD, take, drop, length-set}
-use Rattle.names.specs.Sweep.{stateOf, callStep}
-use Rattle.names.proofs.Steps.{is-small}
-use Rattle.names.proofs.Turns.{says-as, turn-name, turn-call, turn-argument, turn-index, turn-body, turn-block, turn-declared, turn-other}
+use Rattle.sweep.specs.Sweep.{stateOf, callStep}
+use Rattle.sweep.specs.Laws.Steps.{is-small}
+use Rattle.sweep.specs.Laws.Turns.{says-as, turn-name, turn-call, turn-argument, turn-index, turn-body, turn-block, turn-declared, turn-other}
 use borrow.Author.Needs.{needs}
 use Rattle.names.proofs.take_word.Statement.{statement}
 use Rattle.names.proofs.take_word.Tie as tie

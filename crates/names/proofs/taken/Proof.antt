@@ -1,5 +1,5 @@
 -- `names::taken` meets its contract. Assumes nothing.
-use Rattle.names.proofs.Steps.{taken-gate, taken-block, not-taken}
+use Rattle.sweep.specs.Laws.Steps.{taken-gate, taken-block, not-taken}
 use borrow.Author.Needs.{needs}
 use Rattle.names.proofs.taken.Statement.{statement}
 use Rattle.names.proofs.taken.Tie as tie

@@ -14,13 +14,13 @@ use Rattle.rules.specs.Primitives.{primitiveNames}
 use Rattle.rules.specs.Outcome.{Out, ok, refuse, _>>=_, at, need}
 use Rattle.rules.specs.Names.{Role, a-generic, isIndex, Entry, Scope, spellings, find, roleAt, once}
 use Rattle.tape.specs.Layout.{headIn}
-use Rattle.names.specs.declared.Found.{Found}
-use Rattle.names.specs.declared.Found.the-variants.{At, Nothing}
-use Rattle.names.specs.Spelling.{placeOf, lettersOf, nameOf, roleIn, entryOf, scopeIn}
-use Rattle.names.specs.Sweep.{standing, sortFits, shapeFits, nameStep, indexStep, argumentStep, calleeIn, callStep, countsFit, headingOf, blockStep, declareStep, after, State, Finds, Tells, Small}
-use Rattle.names.specs.declared.Heading.{Heading}
-use Rattle.names.specs.declared.Named.{Named}
-use Rattle.names.specs.declared.Named.the-variants.{Done, No}
+use Rattle.sweep.specs.declared.Found.{Found}
+use Rattle.sweep.specs.declared.Found.the-variants.{At, Nothing}
+use Rattle.sweep.specs.Spelling.{placeOf, lettersOf, nameOf, roleIn, entryOf, scopeIn}
+use Rattle.sweep.specs.Sweep.{standing, sortFits, shapeFits, nameStep, indexStep, argumentStep, calleeIn, callStep, countsFit, headingOf, blockStep, declareStep, after, State, Finds, Tells, Small}
+use Rattle.sweep.specs.declared.Heading.{Heading}
+use Rattle.sweep.specs.declared.Named.{Named}
+use Rattle.sweep.specs.declared.Named.the-variants.{Done, No}
 
 pub spelled-alike : (s ws : List ℕ) → spellings (scopeIn s ws) ≡ map (lettersOf s) ws
 spelled-alike s [] = refl

@@ -13,8 +13,8 @@ use Rattle.rules.specs.Syntax.{Name, Op, plus, minus, times, Exp, number, name,
 use Rattle.rules.specs.Laws.Spelt.{SpeltName, SpeltCall, All, AllExp, AllArg}
 use Rattle.tape.specs.Layout.{pack, kindOf, headIn, valueOf, NUMBER, NAME, BRACKET, headOf, flip, nameW, kind-of, value-of, head-of}
 use Rattle.tape.specs.Encoding.{listW, expW, argW}
-use Rattle.names.specs.Sweep.{genericsGiven, inCall, given}
-use Rattle.names.proofs.Expressions.{name-fits, flip-small, head-small}
+use Rattle.sweep.specs.Sweep.{genericsGiven, inCall, given}
+use Rattle.sweep.specs.Laws.Expressions.{name-fits, flip-small, head-small}
 
 -- words of expressions
 unfoldable pub Low : List ℕ → Type 0

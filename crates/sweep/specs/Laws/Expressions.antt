@@ -16,9 +16,9 @@ use Rattle.rules.specs.Laws.Spelt.{SpeltName, SpeltCall, All, AllExp}
 use Rattle.tape.specs.Layout.{pack, kindOf, headIn, valueOf, NUMBER, NAME, BRACKET, headOf, flip, nameW, kind-of, value-of, head-of}
 use Rattle.tape.specs.Encoding.{listW, expW}
 use Rattle.tape.specs.Resolved.{slotW}
-use Rattle.names.specs.Spelling.{placeOf, lettersOf, nameOf, valued, scopeIn}
-use Rattle.names.specs.Sweep.{State, declaredAt, nameStep, standing, after, onto, turn, sweep}
-use Rattle.names.proofs.Turns.{turn-name, turn-other, sweep-on, sweep-no, onto-none}
+use Rattle.sweep.specs.Spelling.{placeOf, lettersOf, nameOf, valued, scopeIn}
+use Rattle.sweep.specs.Sweep.{State, declaredAt, nameStep, standing, after, onto, turn, sweep}
+use Rattle.sweep.specs.Laws.Turns.{turn-name, turn-other, sweep-on, sweep-no, onto-none}
 
 -- ---- outcomes and the words after them
 

@@ -19,11 +19,11 @@ use Rattle.rules.specs.Laws.Spelt.{SpeltName, SpeltCall, All, AllExp, AllSort, 
 use Rattle.tape.specs.Layout.{pack, kindOf, headIn, GENERIC, nameW, kind-of, head-of}
 use Rattle.tape.specs.Encoding.{listW, expW, sortW, declW, genericW}
 use Rattle.tape.specs.Resolved.{slotW}
-use Rattle.names.specs.Spelling.{placeOf, lettersOf, nameOf, roleIn, entryOf, scopeIn}
-use Rattle.names.specs.Sweep.{State, declaredAt, declareStep, declares, after, onto, turn, sweep}
-use Rattle.names.proofs.Steps.{in-first, in-second}
-use Rattle.names.proofs.Turns.{turn-declared, sweep-on, sweep-no, onto-none}
-use Rattle.names.proofs.Expressions.{emit, onto-onto, sweep-emit, name-fits, name-place, name-letters, name-itself, Clear, exp-swept}
+use Rattle.sweep.specs.Spelling.{placeOf, lettersOf, nameOf, roleIn, entryOf, scopeIn}
+use Rattle.sweep.specs.Sweep.{State, declaredAt, declareStep, declares, after, onto, turn, sweep}
+use Rattle.sweep.specs.Laws.Steps.{in-first, in-second}
+use Rattle.sweep.specs.Laws.Turns.{turn-declared, sweep-on, sweep-no, onto-none}
+use Rattle.sweep.specs.Laws.Expressions.{emit, onto-onto, sweep-emit, name-fits, name-place, name-letters, name-itself, Clear, exp-swept}
 
 -- ---- a vector's bounds do not see the vector
 

@@ -19,14 +19,14 @@ use Rattle.rules.specs.Laws.Spelt.{SpeltName, SpeltCall, SpeltBlock, All, AllEx
 use Rattle.tape.specs.Layout.{pack, kindOf, headIn, CALL, INPUT, OUTPUT, LOOP, INDEX, BODY, BLOCK, GENERIC, IN, OUT, VAR, nameW, kind-of, head-of}
 use Rattle.tape.specs.Encoding.{listW, expW, argW, stmtsW, sortW, declW, genericW, blockW, calleeW, tapeOf}
 use Rattle.tape.specs.Written.{put}
-use Rattle.names.specs.declared.Heading.{Heading}
-use Rattle.names.specs.Spelling.{lettersOf}
-use Rattle.names.specs.Sweep.{heading, headings, titles, firsts, leading, headingAt, Rows}
-use Rattle.names.proofs.Expressions.{name-fits, name-letters}
-use Rattle.names.proofs.Given.{Low, exp-low}
-use Rattle.names.proofs.Arguments.{Wanted}
-use Rattle.names.proofs.Callees.{Knows, Heads, counted, roles}
-use Rattle.names.proofs.Declarations.{headOfSort, head-of-sort}
+use Rattle.sweep.specs.declared.Heading.{Heading}
+use Rattle.sweep.specs.Spelling.{lettersOf}
+use Rattle.sweep.specs.Sweep.{heading, headings, titles, firsts, leading, headingAt, Rows}
+use Rattle.sweep.specs.Laws.Expressions.{name-fits, name-letters}
+use Rattle.sweep.specs.Laws.Given.{Low, exp-low}
+use Rattle.sweep.specs.Laws.Arguments.{Wanted}
+use Rattle.sweep.specs.Laws.Callees.{Knows, Heads, counted, roles}
+use Rattle.sweep.specs.Laws.Declarations.{headOfSort, head-of-sort}
 
 -- ---- words that are no headings
 

@@ -13,8 +13,8 @@ use borrow.Author.Tests.{eq-eqb, ne-eqb}
 use Rattle.rules.specs.Text.{pick, same, indexOf}
 use Rattle.rules.specs.Names.{Role, a-generic, a-wire, a-vector, an-index, isWire, isVector, isIndex}
 use Rattle.tape.specs.Layout.{kindOf, headIn, valueOf}
-use Rattle.names.specs.Spelling.{placeOf, lettersOf, roleIn, roleNumber}
-use Rattle.names.specs.Sweep.{standing, sortFits, shapeFits}
+use Rattle.sweep.specs.Spelling.{placeOf, lettersOf, roleIn, roleNumber}
+use Rattle.sweep.specs.Sweep.{standing, sortFits, shapeFits}
 
 -- ---- letters
 

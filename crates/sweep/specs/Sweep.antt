@@ -10,15 +10,15 @@ use Rattle.rules.specs.Outcome.{Out, ok, refuse, _>>=_, at, need, needAt}
 use Rattle.rules.specs.Primitives.{inputsOf, primitiveNames}
 use Rattle.rules.specs.Names.{Role, a-generic, a-wire, a-vector, an-index, isWire, isVector, isIndex, Scope, find, roleAt, once}
 use Rattle.tape.specs.Layout.{kindOf, headIn, valueOf, NAME, BRACKET, CALL, INPUT, OUTPUT, INDEX, BODY, BLOCK, GENERIC, IN, OUT}
-use Rattle.names.specs.declared.Spot.{Spot}
-use Rattle.names.specs.declared.Heading.{Heading}
-use Rattle.names.specs.declared.Named.{Named}
-use Rattle.names.specs.declared.Named.the-variants.{Done, No}
-use Rattle.names.specs.declared.Found.{Found}
-use Rattle.names.specs.declared.Found.the-variants.{At, Nothing}
-use Rattle.names.specs.declared.Turn.{Turn}
-use Rattle.names.specs.declared.Turn.the-variants.{Word, Halt}
-use Rattle.names.specs.Spelling.{placeOf, lettersOf, nameOf, valued, scopeIn}
+use Rattle.sweep.specs.declared.Spot.{Spot}
+use Rattle.sweep.specs.declared.Heading.{Heading}
+use Rattle.sweep.specs.declared.Named.{Named}
+use Rattle.sweep.specs.declared.Named.the-variants.{Done, No}
+use Rattle.sweep.specs.declared.Found.{Found}
+use Rattle.sweep.specs.declared.Found.the-variants.{At, Nothing}
+use Rattle.sweep.specs.declared.Turn.{Turn}
+use Rattle.sweep.specs.declared.Turn.the-variants.{Word, Halt}
+use Rattle.sweep.specs.Spelling.{placeOf, lettersOf, nameOf, valued, scopeIn}
 
 -- ---- headings: the words of the tape that name blocks, generics, inputs and outputs, from place 4 on; before them four words of head 0,
 -- for what a primitive wants

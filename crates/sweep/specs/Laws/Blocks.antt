@@ -19,14 +19,14 @@ use Rattle.rules.specs.Laws.Spelt.{SpeltName, SpeltCall, SpeltBlock, All}
 use Rattle.tape.specs.Layout.{pack, kindOf, BLOCK, BODY, IN, OUT, VAR, nameW, kind-of, value-of}
 use Rattle.tape.specs.Encoding.{listW, stmtsW, declW, genericW, blockW, blocksW, calleeW}
 use Rattle.tape.specs.Resolved.{slotW, calleeW′}
-use Rattle.names.specs.Spelling.{placeOf, lettersOf, scopeIn}
-use Rattle.names.specs.Sweep.{State, declaredAt, blockStep, begun, entered, after, onto, inCall, turn, sweep}
-use Rattle.names.proofs.Turns.{turn-block, turn-body, sweep-on, onto-none}
-use Rattle.names.proofs.Expressions.{emit, onto-onto, sweep-emit, sweep-plain, name-fits, name-place, name-letters, Clear}
-use Rattle.names.proofs.Given.{Ends}
-use Rattle.names.proofs.Callees.{Knows}
-use Rattle.names.proofs.Bodies.{Went, stmts-swept, stmts-length}
-use Rattle.names.proofs.Declarations.{Opened, generics-opened, decls-opened}
+use Rattle.sweep.specs.Spelling.{placeOf, lettersOf, scopeIn}
+use Rattle.sweep.specs.Sweep.{State, declaredAt, blockStep, begun, entered, after, onto, inCall, turn, sweep}
+use Rattle.sweep.specs.Laws.Turns.{turn-block, turn-body, sweep-on, onto-none}
+use Rattle.sweep.specs.Laws.Expressions.{emit, onto-onto, sweep-emit, sweep-plain, name-fits, name-place, name-letters, Clear}
+use Rattle.sweep.specs.Laws.Given.{Ends}
+use Rattle.sweep.specs.Laws.Callees.{Knows}
+use Rattle.sweep.specs.Laws.Bodies.{Went, stmts-swept, stmts-length}
+use Rattle.sweep.specs.Laws.Declarations.{Opened, generics-opened, decls-opened}
 
 emit-block : (w y : ℕ) (gw : List ℕ) (ei eo ev : List (Decl ℕ) → List ℕ) (eb : Stmts ℕ Callee → List ℕ) (ex : Block ℕ Callee → List ℕ) (f : List (Decl ℕ) → List (Decl ℕ) → List (Decl ℕ) → Stmts ℕ Callee → Block ℕ Callee)
     (on og : Out (Unit {0})) (oi oo ov : Out (List (Decl ℕ))) (ob : Out (Stmts ℕ Callee)) (R : Out (List ℕ))

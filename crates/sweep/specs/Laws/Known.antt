@@ -19,13 +19,13 @@ use Rattle.rules.specs.Laws.Spelt.{SpeltName, SpeltBlock, All, AllDecl, SpeltCa
 use Rattle.tape.specs.Layout.{pack, kindOf, headIn, BLOCK, GENERIC, IN, OUT, nameW, kind-of, head-of}
 use Rattle.tape.specs.Encoding.{listW}
 use Rattle.tape.specs.Written.{put}
-use Rattle.names.specs.Spelling.{lettersOf}
-use Rattle.names.specs.Sweep.{leading, headingAt, Rows}
-use Rattle.names.proofs.Expressions.{name-fits, name-letters}
-use Rattle.names.proofs.Arguments.{Wanted}
-use Rattle.names.proofs.Callees.{Knows, Heads, counted, roles}
-use Rattle.names.proofs.Declarations.{headOfSort, head-of-sort}
-use Rattle.names.proofs.Headings.{portW, genW, titleW, headW, starts, SpeltD, title-kind}
+use Rattle.sweep.specs.Spelling.{lettersOf}
+use Rattle.sweep.specs.Sweep.{leading, headingAt, Rows}
+use Rattle.sweep.specs.Laws.Expressions.{name-fits, name-letters}
+use Rattle.sweep.specs.Laws.Arguments.{Wanted}
+use Rattle.sweep.specs.Laws.Callees.{Knows, Heads, counted, roles}
+use Rattle.sweep.specs.Laws.Declarations.{headOfSort, head-of-sort}
+use Rattle.sweep.specs.Laws.Headings.{portW, genW, titleW, headW, starts, SpeltD, title-kind}
 
 -- ---- stores
 

@@ -20,17 +20,17 @@ use Rattle.tape.specs.Encoding.{listW, blockW, blocksW, calleeW, tapeOf}
 use Rattle.tape.specs.Resolved.{slotW, calleeW′, resolvedTape}
 use Rattle.tape.specs.Written.{put}
 use Rattle.tape.specs.Lies.{Lies}
-use Rattle.names.specs.Spelling.{placeOf, lettersOf}
-use Rattle.names.specs.Sweep.{State, start, headings, titles, firsts, leading, headingAt, Rows, Answers, Swept, mainIn, after, onto, sweep}
-use Rattle.names.specs.Resolves.{Holds, Readable, Right, Resolves}
-use Rattle.names.specs.declared.Named.{Named}
-use Rattle.names.specs.declared.Named.the-variants.{Done, No}
-use Rattle.names.proofs.Expressions.{emit, name-place}
-use Rattle.names.proofs.Callees.{Knows, Heads}
-use Rattle.names.proofs.Blocks.{blocks-swept}
-use Rattle.names.proofs.Headings.{titleW, headW, starts, tape-headings, tape-titles, tape-firsts}
-use Rattle.names.proofs.Known.{zeros, zeros-length, put-list, heads-short, starts-below, F-list, N-list, known}
-use Rattle.names.proofs.Known as rows
+use Rattle.sweep.specs.Spelling.{placeOf, lettersOf}
+use Rattle.sweep.specs.Sweep.{State, start, headings, titles, firsts, leading, headingAt, Rows, Answers, Swept, mainIn, after, onto, sweep}
+use Rattle.sweep.specs.Resolves.{Holds, Readable, Right, Resolves}
+use Rattle.sweep.specs.declared.Named.{Named}
+use Rattle.sweep.specs.declared.Named.the-variants.{Done, No}
+use Rattle.sweep.specs.Laws.Expressions.{emit, name-place}
+use Rattle.sweep.specs.Laws.Callees.{Knows, Heads}
+use Rattle.sweep.specs.Laws.Blocks.{blocks-swept}
+use Rattle.sweep.specs.Laws.Headings.{titleW, headW, starts, tape-headings, tape-titles, tape-firsts}
+use Rattle.sweep.specs.Laws.Known.{zeros, zeros-length, put-list, heads-short, starts-below, F-list, N-list, known}
+use Rattle.sweep.specs.Laws.Known as rows
 
 -- ---- main
 

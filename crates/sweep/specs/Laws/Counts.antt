@@ -12,8 +12,8 @@ use borrow.Author.Tests.{eq-eqb, ne-eqb, lt-ltb, le-ltb}
 use Rattle.rules.specs.Text.{pick}
 use Rattle.rules.specs.Primitives.{inputsOf}
 use Rattle.tape.specs.Layout.{kindOf, headIn, valueOf, INPUT, OUTPUT, GENERIC, IN, OUT}
-use Rattle.names.specs.Sweep.{leading, genericsGiven, inCall, given, countsFit, headingAt, headingOf}
-use Rattle.names.specs.declared.Heading.{Heading}
+use Rattle.sweep.specs.Sweep.{leading, genericsGiven, inCall, given, countsFit, headingAt, headingOf}
+use Rattle.sweep.specs.declared.Heading.{Heading}
 
 -- the words from i on begin with the one at i
 pub opened : (t : List ℕ) (end i : ℕ) → i < end → end ≤ length t → drop i (take end t) ≡ getD t i 0 ∷ drop (i + 1) (take end t)

@@ -11,8 +11,8 @@ use Rattle.tape.specs.Encoding.{tapeOf}
 use Rattle.tape.specs.Resolved.{resolvedTape}
 use Rattle.tape.specs.Written.{put}
 use Rattle.tape.specs.Lies.{Lies}
-use Rattle.names.specs.declared.Named.{Named}
-use Rattle.names.specs.declared.Named.the-variants.{Done, No}
+use Rattle.sweep.specs.declared.Named.{Named}
+use Rattle.sweep.specs.declared.Named.the-variants.{Done, No}
 
 -- the first `end` words of the tape t are those of the program Bs, which the text s spells
 pub record Holds (s t : List ℕ) (end : ℕ) (Bs : Spelled) : Type 0 where

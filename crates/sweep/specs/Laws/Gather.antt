@@ -12,11 +12,11 @@ use Rattle.rules.specs.Text.{bytes, pick, indexOf, isIn}
 use Rattle.rules.specs.Outcome.{Out, ok, refuse, _>>=_, at, need, needAt}
 use Rattle.tape.specs.Layout.{kindOf, BLOCK}
 use Rattle.tape.specs.Written.{put}
-use Rattle.names.specs.declared.Found.{Found}
-use Rattle.names.specs.declared.Found.the-variants.{At, Nothing}
-use Rattle.names.specs.Spelling.{placeOf, lettersOf}
-use Rattle.names.specs.Sweep.{heading, headings, titles, firsts, mainIn, Finds}
-use Rattle.names.proofs.Counts.{opened, none-left}
+use Rattle.sweep.specs.declared.Found.{Found}
+use Rattle.sweep.specs.declared.Found.the-variants.{At, Nothing}
+use Rattle.sweep.specs.Spelling.{placeOf, lettersOf}
+use Rattle.sweep.specs.Sweep.{heading, headings, titles, firsts, mainIn, Finds}
+use Rattle.sweep.specs.Laws.Counts.{opened, none-left}
 
 module _ (t : List ℕ) (end i : ℕ) (l : end ≤ length t) (h : i < end) where
   module _ (b : Bool) (e : b ≡ heading (getD t i 0)) where

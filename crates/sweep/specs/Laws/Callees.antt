@@ -18,10 +18,10 @@ use Rattle.rules.specs.Laws.Outcomes.{ok-inj, inv, at-ok}
 use Rattle.rules.specs.Laws.Scoped.{pick-or}
 use Rattle.tape.specs.Layout.{headIn}
 use Rattle.tape.specs.Resolved.{calleeNumber}
-use Rattle.names.specs.declared.Heading.{Heading}
-use Rattle.names.specs.Spelling.{placeOf, lettersOf}
-use Rattle.names.specs.Sweep.{calleeIn, headingAt, headingOf, gateHeading, after}
-use Rattle.names.proofs.Arguments.{Wanted}
+use Rattle.sweep.specs.declared.Heading.{Heading}
+use Rattle.sweep.specs.Spelling.{placeOf, lettersOf}
+use Rattle.sweep.specs.Sweep.{calleeIn, headingAt, headingOf, gateHeading, after}
+use Rattle.sweep.specs.Laws.Arguments.{Wanted}
 
 -- a heading with these counts, whose ports begin at v
 abbrev pub counted : ℕ → ℕ → ℕ → ℕ → Heading

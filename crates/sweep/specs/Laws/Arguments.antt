@@ -15,10 +15,10 @@ use Rattle.rules.specs.Laws.Spelt.{SpeltName, SpeltCall, All, AllExp, AllArg}
 use Rattle.tape.specs.Layout.{pack, kindOf, headIn, valueOf, nameW, kind-of, value-of, head-of}
 use Rattle.tape.specs.Encoding.{listW, expW, argW}
 use Rattle.tape.specs.Resolved.{slotW}
-use Rattle.names.specs.Spelling.{placeOf, lettersOf, nameOf, valued, scopeIn}
-use Rattle.names.specs.Sweep.{State, declaredAt, argumentStep, sortFits, shapeFits, after, onto, argued, turn, sweep}
-use Rattle.names.proofs.Turns.{turn-argument, onto-none}
-use Rattle.names.proofs.Expressions.{emit, emit-after, emit-both, bind-after, sweep-emit, name-fits, name-place, name-itself, valued-pack, Clear, exp-swept}
+use Rattle.sweep.specs.Spelling.{placeOf, lettersOf, nameOf, valued, scopeIn}
+use Rattle.sweep.specs.Sweep.{State, declaredAt, argumentStep, sortFits, shapeFits, after, onto, argued, turn, sweep}
+use Rattle.sweep.specs.Laws.Turns.{turn-argument, onto-none}
+use Rattle.sweep.specs.Laws.Expressions.{emit, emit-after, emit-both, bind-after, sweep-emit, name-fits, name-place, name-itself, valued-pack, Clear, exp-swept}
 
 -- the state whose next argument is for the port at v
 abbrev pub moved : State → ℕ → State

@@ -12,11 +12,11 @@ use borrow.Author.Tests.{eq-eqb, ne-eqb, lt-ltb, le-ltb}
 use Rattle.rules.specs.Text.{pick}
 use Rattle.rules.specs.Outcome.{Out, ok, refuse, _>>=_}
 use Rattle.tape.specs.Layout.{kindOf, valueOf}
-use Rattle.names.specs.declared.Turn.{Turn}
-use Rattle.names.specs.declared.Turn.the-variants.{Word, Halt}
-use Rattle.names.specs.Spelling.{valued}
-use Rattle.names.specs.Sweep.{State, declaredAt, nameStep, indexStep, argumentStep, callStep, blockStep, declareStep, headingOf, after, called, argued, indexed, entered, begun, declares, turn, sweep, onto, Says}
-use Rattle.names.proofs.Counts.{opened, none-left}
+use Rattle.sweep.specs.declared.Turn.{Turn}
+use Rattle.sweep.specs.declared.Turn.the-variants.{Word, Halt}
+use Rattle.sweep.specs.Spelling.{valued}
+use Rattle.sweep.specs.Sweep.{State, declaredAt, nameStep, indexStep, argumentStep, callStep, blockStep, declareStep, headingOf, after, called, argued, indexed, entered, begun, declares, turn, sweep, onto, Says}
+use Rattle.sweep.specs.Laws.Counts.{opened, none-left}
 
 pub says-as : {o u : Out (ℕ × State)} (t : Turn) (S : State) → o ≡ u → Says u t S → Says o t S
 says-as t S e h = subst (λ o. Says o t S) (sym e) h

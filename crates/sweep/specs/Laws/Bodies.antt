@@ -20,14 +20,14 @@ use Rattle.rules.specs.Laws.Scoped.{found}
 use Rattle.tape.specs.Layout.{pack, kindOf, valueOf, CALL, INPUT, OUTPUT, LOOP, INDEX, BODY, nameW, kind-of, value-of}
 use Rattle.tape.specs.Encoding.{listW, expW, argW, stmtsW, calleeW}
 use Rattle.tape.specs.Resolved.{slotW, calleeNumber, calleeW′}
-use Rattle.names.specs.Spelling.{placeOf, lettersOf, nameOf, valued, entryOf, scopeIn}
-use Rattle.names.specs.Sweep as sw
-use Rattle.names.specs.Sweep.{State, declaredAt, callStep, calleeIn, countsFit, headingOf, indexStep, after, onto, indexed, entered, genericsGiven, given, inCall, turn, sweep}
-use Rattle.names.proofs.Turns.{turn-call, turn-index, turn-body, turn-other, sweep-on, sweep-no, onto-none}
-use Rattle.names.proofs.Expressions.{emit, onto-onto, sweep-plain, name-fits, name-place, name-letters, name-itself, valued-pack, Clear, exp-swept, exp-length}
-use Rattle.names.proofs.Arguments.{moved, Wanted, exps-swept, args-swept}
-use Rattle.names.proofs.Given.{Ends, ends-given, ends-generics, exps-generics, exps-given, args-other, args-given, args-generics}
-use Rattle.names.proofs.Callees.{Knows, Right, counted, callee-as, wants-right}
+use Rattle.sweep.specs.Spelling.{placeOf, lettersOf, nameOf, valued, entryOf, scopeIn}
+use Rattle.sweep.specs.Sweep as sw
+use Rattle.sweep.specs.Sweep.{State, declaredAt, callStep, calleeIn, countsFit, headingOf, indexStep, after, onto, indexed, entered, genericsGiven, given, inCall, turn, sweep}
+use Rattle.sweep.specs.Laws.Turns.{turn-call, turn-index, turn-body, turn-other, sweep-on, sweep-no, onto-none}
+use Rattle.sweep.specs.Laws.Expressions.{emit, onto-onto, sweep-plain, name-fits, name-place, name-letters, name-itself, valued-pack, Clear, exp-swept, exp-length}
+use Rattle.sweep.specs.Laws.Arguments.{moved, Wanted, exps-swept, args-swept}
+use Rattle.sweep.specs.Laws.Given.{Ends, ends-given, ends-generics, exps-generics, exps-given, args-other, args-given, args-generics}
+use Rattle.sweep.specs.Laws.Callees.{Knows, Right, counted, callee-as, wants-right}
 
 -- ---- the ends of loops
 
