@@ -1,0 +1,15 @@
+pub mod Leaves
+pub mod Counts
+pub mod Steps
+pub mod Turns
+pub mod Expressions
+pub mod Arguments
+pub mod Given
+pub mod Callees
+pub mod Bodies
+pub mod Declarations
+pub mod Blocks
+pub mod Gather
+pub mod Headings
+pub mod Known
+pub mod Whole

@@ -1,0 +1,4 @@
+pub mod Spelling
+pub mod Sweep
+pub mod Resolves
+pub mod Laws
