@@ -3,3 +3,5 @@ pub mod Entering
 pub mod Opening
 pub mod Adding
 pub mod Statements
+pub mod Quiet
+pub mod Loops
