@@ -5,3 +5,4 @@ pub mod Adding
 pub mod Statements
 pub mod Quiet
 pub mod Loops
+pub mod Steps
