@@ -6,3 +6,4 @@ pub mod Statements
 pub mod Quiet
 pub mod Loops
 pub mod Steps
+pub mod Scope
