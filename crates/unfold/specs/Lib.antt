@@ -3,3 +3,7 @@ pub mod Entering
 pub mod Opening
 pub mod Adding
 pub mod Statements
+pub mod Quiet
+pub mod Loops
+pub mod Steps
+pub mod Scope

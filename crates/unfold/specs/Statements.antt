@@ -62,7 +62,7 @@ module _ (len : ℕ) where
     pub sound : AllStmts (λ k. k < 48) (CalleeOf len) len c
     pub text : len ≤ 16384
 
-  meant-below : (p : ℕ) (c : Callee) → CalleeOf len p c → len ≤ 16384 → meantW p c < 33554432
+  pub meant-below : (p : ℕ) (c : Callee) → CalleeOf len p c → len ≤ 16384 → meantW p c < 33554432
   unfolding CalleeOf meantW
   meant-below p (gate k) q s = omega (arith, q .0, q .1)
   meant-below p (block b) q s = omega (arith, q .0, q .1)
@@ -124,11 +124,11 @@ module _ (len : ℕ) {t : List ℕ} {at last : ℕ} {p : ℕ} {c : Callee} {gs :
   abbrev argsW : List ℕ
   argsW = listW (argW slotW 4) ins ++ listW (argW slotW 5) outs
 
-  from-values : Lies t (at + 1) (listW valueW gs ++ (listW (argW slotW 4) ins ++ (listW (argW slotW 5) outs ++ bodyW rest)))
+  pub from-values : Lies t (at + 1) (listW valueW gs ++ (listW (argW slotW 4) ins ++ (listW (argW slotW 5) outs ++ bodyW rest)))
   unfolding stmtsW
   from-values = lies-rest (h .lies)
 
-  abbrev afterValues : ℕ
+  abbrev pub afterValues : ℕ
   afterValues = at + 1 + length (listW valueW gs)
 
   from-ins : Lies t afterValues (listW (argW slotW 4) ins ++ (listW (argW slotW 5) outs ++ bodyW rest))
@@ -154,11 +154,11 @@ module _ (len : ℕ) {t : List ℕ} {at last : ℕ} {p : ℕ} {c : Callee} {gs :
   unfolding AllStmts
   call-rest = record { lies = lies-right (listW (argW slotW 5) outs) _ from-outs; ends = call-ends; limit = h .limit; short = h .short; sound = h .sound .4; text = h .text }
 
-  call-sound : All (Grouped 2) gs × All GroupedArg ins × All GroupedArg outs
+  pub call-sound : All (Grouped 2) gs × All GroupedArg ins × All GroupedArg outs
   unfolding AllStmts
   call-sound = (grouped-all (CalleeOf len) len gs (h .sound .1), grouped-args (CalleeOf len) len ins (h .sound .2), grouped-args (CalleeOf len) len outs (h .sound .3))
 
-  after-args : (P : ℕ → Type 0) → P 3 → P 6 → Stop t last P afterCall
+  pub after-args : (P : ℕ → Type 0) → P 3 → P 6 → Stop t last P afterCall
   after-args P a b = first-kind len P rest a b call-rest
 
   after-values : (P : ℕ → Type 0) → P 4 → P 5 → P 3 → P 6 → Stop t last P afterValues

@@ -10,6 +10,7 @@ ghost use Rattle.rules.specs.Unfold.{Range, State};
 ghost use Rattle.frames.specs.Stands.{Stands, Knows};
 ghost use Rattle.unfold.specs.Header.{HereBlock, WrittenBlock, afterGenerics, afterLocals};
 ghost use Rattle.tape.specs.Layout.{valueOf};
+ghost use Rattle.unfold.specs.Quiet.{Calm, WrittenCalm};
 ghost use Rattle.unfold.specs.Opening.{WrittenOpen, Opens};
 ghost use Rattle.gates.specs.Shows.{Shows, Gives};
 ghost use Rattle.unfold.specs.Adding.{WrittenGate, Fits, added};
@@ -209,4 +210,26 @@ pub fn add(
             gates::emit(net, marks, s, nin, gate)
         }
     }
+}
+
+// The place after the words from i on that belong to the parts of one statement: at the next statement, at a body, or at the end.
+fn after_parts(tape: &[u32], at: usize, end: usize) -> usize
+    requires { ⌜ WrittenCalm (now tape) at end ⌝ }
+    ensures { λ r. ⌜ ((ws : List ℕ) → Calm (now (tape .entry)) at end ws → r ≡ at + length ws) ⌝ }
+{
+    let mut i = at;
+    while i < end {
+        let kind = tape::kind_of(tape[i]);
+        if kind == Kind::CALL {
+            return i;
+        }
+        if kind == Kind::LOOP {
+            return i;
+        }
+        if kind == Kind::BODY {
+            return i;
+        }
+        i += 1;
+    }
+    i
 }

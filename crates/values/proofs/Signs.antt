@@ -110,3 +110,9 @@ up (negsuc n) h = let z : _≡_ {A = ℕ} 0 1 = cc in absurd (omega arith)
 pub up-fits : (d : ℤ) → ltZ d (pos 0) ≡ false → SFits w64 d → T (nonNeg d) × Fits w64 (natAbs d)
 up-fits (pos n) h f = (tt, record { fits = omega (arith, f .sfits) })
 up-fits (negsuc n) h f = let z : _≡_ {A = ℕ} 0 1 = cc in absurd (omega arith)
+
+-- how far apart two 32-bit numbers are
+pub apart-small : (d : ℤ) {k : ℕ} → SFits w64 d → By k ≡ apartOf d → k < 9223372036854775808
+unfolding apartOf
+apart-small (pos j) {k} f e = let q : k ≡ j = cc in omega (arith, f .sfits)
+apart-small (negsuc j) f e = let z : _≡_ {A = ℕ} 0 1 = cc in absurd (omega arith)

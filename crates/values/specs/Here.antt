@@ -102,7 +102,7 @@ unfolding All
 all-append P [] b p q = q
 all-append P (x ∷ a) b p q = (p .0, all-append P a b (p .1) q)
 
-flip-below : (h : ℕ) → h < 8 → flip h < 8
+pub flip-below : (h : ℕ) → h < 8 → flip h < 8
 unfolding flip pick
 flip-below h l = go (eqb (h % 2) 0) refl
   where
@@ -118,7 +118,7 @@ flip-above h l = go (eqb (h % 2) 0) refl
     go true e = omega (arith, eqb-true (h % 2) 0 e)
     go false e = omega (arith, eqb-false (h % 2) 0 e)
 
-head-below : (o : Op) → headOf o < 8
+pub head-below : (o : Op) → headOf o < 8
 unfolding headOf
 head-below plus = omega arith
 head-below minus = omega arith

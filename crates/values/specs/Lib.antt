@@ -3,3 +3,4 @@ pub mod Factors
 pub mod Here
 pub mod Taking
 pub mod Sizes
+pub mod Loops

@@ -13,6 +13,7 @@ ghost use Rattle.values.specs.Numbers.{clipped, negation, joined, value}
 ghost use Rattle.values.specs.Factors.{Factor, total, signed, step, nothing};
 ghost use Rattle.values.specs.Here.{goesOn, Here, Written, Says, HereFactor, WrittenFactor, numberIn, valueAt};
 ghost use Rattle.values.specs.Taking.{afterOf, plainOf};
+ghost use Rattle.values.specs.Loops.{HereTwo, WrittenTwo, Turns};
 ghost use Rattle.values.specs.Sizes.{HereSort, WrittenSort, Sizes, sizeOf, apartOf};
 use tape::Kind;
 
@@ -45,6 +46,12 @@ pub enum Size {
 pub enum Apart {
     By(usize),
     Not,
+}
+
+// A loop's first index, how many rounds it has, and the place after the words of its bounds; or the number of a refusal.
+pub enum Rounds {
+    From(i32, usize, usize),
+    Wrong(usize),
 }
 
 const TIMES: u32 = 3;
@@ -292,4 +299,25 @@ pub fn measure(tape: &[u32], values: &[i32; 48], at: usize, end: usize) -> Size
         return Size::Wrong(10);
     };
     sized(x, y, next)
+}
+
+// The rounds of a loop whose bounds' words begin at `at`: they are worked out once.
+pub fn span(tape: &[u32], values: &[i32; 48], at: usize, end: usize) -> Rounds
+    requires { ⌜ WrittenTwo (now tape) at end ⌝ }
+    ensures { λ r. ⌜ ((a b : Exp ℕ) → HereTwo (now (tape .entry)) at end a b
+        → Turns (generics (now (values .entry))) a b (at + length (expW slotW 0 a) + length (expW slotW 0 b)) r) ⌝ }
+{
+    let first = eval(tape, values, at, end);
+    let Value::At(x, second) = first else {
+        return Rounds::Wrong(10);
+    };
+    let last = eval(tape, values, second, end);
+    let Value::At(y, next) = last else {
+        return Rounds::Wrong(10);
+    };
+    let more = above(y, x);
+    match more {
+        Apart::Not => Rounds::From(x, 0, next),
+        Apart::By(k) => Rounds::From(x, k + 1, next),
+    }
 }
