@@ -12,7 +12,7 @@ use Rattle.rules.specs.Laws.Spelt.{All, AllExp, AllArg, AllStmts}
 use Rattle.rules.specs.Laws.Numbered.{CalleeOf}
 use Rattle.tape.specs.Layout.{pack, kindOf, valueOf, kind-of, value-of}
 use Rattle.tape.specs.Encoding.{expW, argW, listW, stmtsW}
-use Rattle.tape.specs.Resolved.{slotW, meantW}
+use Rattle.tape.specs.Resolved.{slotW, meantW, calleeNumber}
 use Rattle.tape.specs.Lies.{Lies, lies-first, lies-rest, lies-left, lies-right}
 use Rattle.values.specs.Factors.{Grouped, grouped}
 use Rattle.values.specs.Here.{goesOn}
@@ -63,7 +63,7 @@ module _ (len : ℕ) where
     pub text : len ≤ 16384
 
   pub meant-below : (p : ℕ) (c : Callee) → CalleeOf len p c → len ≤ 16384 → meantW p c < 33554432
-  unfolding CalleeOf meantW
+  unfolding CalleeOf calleeNumber
   meant-below p (gate k) q s = omega (arith, q .0, q .1)
   meant-below p (block b) q s = omega (arith, q .0, q .1)
 
