@@ -1,6 +1,7 @@
 // Names: answers 6 to 9 (01, "Numbers of the answers"), and every name of a tape becomes the number of its declaration.
 // Cost: a name is compared with at most 48 declared ones, and a block's or a call's name with at most 10 primitives and 64 blocks;
 // a call's words are looked at three times more, and its heading's at most 48 words once.
+use rules::Gate;
 use sweep::Found;
 use sweep::Heading;
 use sweep::Named;
@@ -110,45 +111,43 @@ fn primitive(text: &[u8], word: u32) -> usize
     ensures { λ r. ⌜ r ≡ indexOf (lettersOf (now (text .entry)) word) primitiveNames ⌝ }
 {
     if spells(text, word, b"connect") {
-        return 0;
+        return Gate::CONNECT as usize;
     }
     if spells(text, word, b"not") {
-        return 1;
+        return Gate::NOT as usize;
     }
     if spells(text, word, b"and") {
-        return 2;
+        return Gate::AND as usize;
     }
     if spells(text, word, b"or") {
-        return 3;
+        return Gate::OR as usize;
     }
     if spells(text, word, b"xor") {
-        return 4;
+        return Gate::XOR as usize;
     }
     if spells(text, word, b"nand") {
-        return 5;
+        return Gate::NAND as usize;
     }
     if spells(text, word, b"nor") {
-        return 6;
+        return Gate::NOR as usize;
     }
     if spells(text, word, b"mux") {
-        return 7;
+        return Gate::MUX as usize;
     }
     if spells(text, word, b"zero") {
-        return 8;
+        return Gate::ZERO as usize;
     }
     if spells(text, word, b"one") {
-        return 9;
+        return Gate::ONE as usize;
     }
     10
 }
-
-const INPUTS: [usize; 10] = [1, 1, 2, 2, 2, 2, 2, 3, 0, 0];
 
 fn inputs_of(kind: usize) -> usize
     requires { ⌜ kind < 10 ⌝ }
     ensures { λ r. ⌜ r ≡ inputsOf kind ⌝ }
 {
-    INPUTS[kind]
+    Gate::inputs(kind as u16)
 }
 
 // What a declared word's name is: 0 a WIRE, 1 a VECTOR, 2 a NUM, 3 a generic.
