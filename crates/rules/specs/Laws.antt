@@ -14,6 +14,7 @@ pub mod Within
 pub mod Bytes
 pub mod Rings
 pub mod Scoped
+pub mod Suits
 pub mod Late
 pub mod FlatOne
 pub mod Records

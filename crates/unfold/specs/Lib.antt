@@ -6,4 +6,5 @@ pub mod Statements
 pub mod Quiet
 pub mod Loops
 pub mod Steps
+pub mod Shelf
 pub mod Scope

@@ -19,6 +19,7 @@ use Rattle.rules.specs.Flatten.{program, flattened, answer, flatten}
 use Rattle.rules.specs.Laws.Carried.{map-append}
 use Rattle.rules.specs.Laws.Outcomes.{no-ok, ok-inj, inv, inv-at, at-ok, need-yes, yes-need}
 use Rattle.rules.specs.Laws.Within.{Within, fine, no, wider, within-then, within-next, within-at, within-need, within-nth, grammar-within, names-within}
+use Rattle.rules.specs.Laws.Suits.{Suits, suits-nth, Sized, resolves-sized, ends-fit, entered-suits, main-suits}
 use Rattle.rules.specs.Laws.Scoped.{roles, portsOf, namesOf, ArgOk, ArgsOk, Wanted, by-gate, by-block, StmtsOk, BlocksOk, Scoped, names-scoped}
 
 abbrev Unfolding : {A : Type 0} → Out A → Type 0
@@ -54,56 +55,14 @@ shape-within ρ wire = fine
 shape-within ρ (vector a b) = within-then (eval-within ρ a) λ x. within-then (eval-within ρ b) λ y. within-then (width-within _) λ n. fine
 shape-within ρ num = fine
 
--- a WIRE has one wire
-shape-one : (ρ : Env) (t : Sort ℕ) {h : Shape} → shape ρ t ≡ ok h → T (isWire (roleOf t)) → h .size ≡ 1
-unfolding shape roleOf isWire
-shape-one ρ wire e t = ap (λ h. h .size) (sym (ok-inj e))
-shape-one ρ (vector a b) e t = absurd t
-shape-one ρ num e t = absurd t
-
 offset-within : (d : ℤ) → Unfolding (offset d)
 unfolding offset
 offset-within (pos k) = fine
 offset-within (negsuc k) = no {n = 12} (omega arith) (omega arith)
 
--- ---- names that suit their roles: what is a wire has one
-
-unfoldable Suits : Frame Range → List Role → Type 0
-Suits [] [] = Unit {0}
-Suits [] (r ∷ E) = ⊥
-Suits (x ∷ σ) [] = ⊥
-Suits (x ∷ σ) (r ∷ E) = (T (isWire r) → x .cells .len ≡ 1) × Suits σ E
-
-suits-append : (σ τ : Frame Range) (E F : List Role) → Suits σ E → Suits τ F → Suits (σ ++ τ) (E ++ F)
-unfolding Suits
-suits-append [] τ [] F p q = q
-suits-append [] τ (r ∷ E) F p q = absurd p
-suits-append (x ∷ σ) τ [] F p q = absurd p
-suits-append (x ∷ σ) τ (r ∷ E) F p q = (p .0, suits-append σ τ E F (p .1) q)
-
-suits-blanks : (ns : List Name) → Suits (blanks Wires ns) (map (λ n. a-generic) ns)
-unfolding Suits blanks isWire
-suits-blanks [] = tt
-suits-blanks (n ∷ ns) = ((λ t. absurd t), suits-blanks ns)
-
-suits-nth : (σ : Frame Range) (E : List Role) (k : ℕ) → Suits σ E → k < length E → (x : Sig Range) × (nth 7 σ k ≡ ok x) × (T (isWire (getD E k a-generic)) → x .cells .len ≡ 1)
-unfolding Suits nth
-suits-nth [] [] k p h = absurd (omega arith)
-suits-nth [] (r ∷ E) k p h = absurd p
-suits-nth (x ∷ σ) [] k p h = absurd p
-suits-nth (x ∷ σ) (r ∷ E) zero p h = (x, refl, p .0)
-suits-nth (x ∷ σ) (r ∷ E) (suc k) p h = suits-nth σ E k (p .1) (omega arith)
-
 is-there : {A B : Type 0} {o : Out A} {a : A} (f : A → Out B) → o ≡ ok a → Unfolding (f a) → Unfolding (o >>= f)
 unfolding _>>=_
 is-there f e w = rw e w
-
--- wires that suit the roles wanted
-unfoldable Sized : List Role → List Range → Type 0
-Sized [] [] = Unit {0}
-Sized [] (r ∷ rs) = ⊥
-Sized (w ∷ ws) [] = ⊥
-Sized (w ∷ ws) (r ∷ rs) = (T (isWire w) → r .len ≡ 1) × Sized ws rs
 
 module _ (ρ : Env) (σ : Frame Range) (E : List Role) (suits : Suits σ E) where
   resolve-within : (w : Role) (a : Arg ℕ) → ArgOk E w a → Unfolding (resolve Wires ρ σ a)
@@ -113,19 +72,6 @@ module _ (ρ : Env) (σ : Frame Range) (E : List Role) (suits : Suits σ E) wher
       is-there _ (suits-nth σ E k suits h .1)
       (within-then (eval-within ρ e) λ v. within-then (offset-within _) λ i. within-then (within-need _ 12 (omega arith) (omega arith)) λ _. fine)
 
-  resolve-sized : (w : Role) (a : Arg ℕ) {r : Range} → ArgOk E w a → resolve Wires ρ σ a ≡ ok r → T (isWire w) → r .len ≡ 1
-  unfolding resolve ArgOk
-  resolve-sized w (whole k) h e t =
-      inv _ _ e λ x ex e₁.
-      let (y, ey, one) = suits-nth σ E k suits (h .0) in
-      ap (λ r. r .len) (sym (ok-inj e₁)) ∙ ap (λ x. x .cells .len) (ok-inj (sym ex ∙ ey)) ∙ one (h .1 t)
-  resolve-sized w (part k x) h e t =
-      inv _ _ e λ _ _ e₁.
-      inv _ _ e₁ λ _ _ e₂.
-      inv _ _ e₂ λ _ _ e₃.
-      inv _ _ e₃ λ _ _ e₄.
-      ap (λ r. r .len) (sym (ok-inj e₄))
-
   resolves-within : (ws : List Role) (args : List (Arg ℕ)) → ArgsOk E ws args → Unfolding (resolves Wires ρ σ args)
   unfolding resolves ArgsOk
   resolves-within [] [] h = fine
@@ -133,40 +79,11 @@ module _ (ρ : Env) (σ : Frame Range) (E : List Role) (suits : Suits σ E) wher
   resolves-within (w ∷ ws) [] h = absurd h
   resolves-within (w ∷ ws) (a ∷ args) h = within-then (resolve-within w a (h .0)) λ c. within-then (resolves-within ws args (h .1)) λ cs. fine
 
-  resolves-sized : (ws : List Role) (args : List (Arg ℕ)) {rs : List Range} → ArgsOk E ws args → resolves Wires ρ σ args ≡ ok rs → Sized ws rs
-  unfolding resolves ArgsOk Sized
-  resolves-sized [] [] h e = rw (← (ok-inj e)) tt
-  resolves-sized [] (a ∷ args) h e = absurd h
-  resolves-sized (w ∷ ws) [] h e = absurd h
-  resolves-sized (w ∷ ws) (a ∷ args) h e =
-      inv _ _ e λ c ec e₁.
-      inv _ _ e₁ λ cs es e₂.
-      rw (← (ok-inj e₂)) (resolve-sized w a (h .0) ec, resolves-sized ws args (h .1) es)
-
 -- ---- ports and locals
-
-yes-and : (a b : Bool) → T a → T b → T (a && b)
-yes-and true b x y = y
-yes-and false b x y = x
 
 done-at : (p : ℕ) → at {A = Unit {0}} p (ok tt) ≡ ok tt
 unfolding at
 done-at p = refl
-
-suits-one : (r : Role) (x : Sig Range) → (T (isWire r) → x .cells .len ≡ 1) → Suits (x ∷ []) (r ∷ [])
-unfolding Suits
-suits-one r x h = (h, tt)
-
--- a block's names are its generics, its ports and its locals
-named-all : (B : Block ℕ Callee) → (map (λ n. a-generic) (B .generics) ++ portsOf B) ++ roles (B .locals) ≡ namesOf B
-named-all B =
-    append-assoc (map (λ n. a-generic) (B .generics)) (portsOf B) (roles (B .locals))
-    ∙ ap (λ l. map (λ n. a-generic) (B .generics) ++ l) (sym (map-append (λ d. roleOf (d .sort)) (B .inputs ++ B .outputs) (B .locals)))
-
-named-main : (B : Block ℕ Callee) → ((map (λ n. a-generic) (B .generics) ++ roles (B .inputs)) ++ roles (B .outputs)) ++ roles (B .locals) ≡ namesOf B
-named-main B =
-    ap (λ l. l ++ roles (B .locals)) (append-assoc (map (λ n. a-generic) (B .generics)) (roles (B .inputs)) (roles (B .outputs)) ∙ ap (λ l. map (λ n. a-generic) (B .generics) ++ l) (sym (map-append (λ d. roleOf (d .sort)) (B .inputs) (B .outputs))))
-    ∙ named-all B
 
 tie-within : (ρ : Env) (ds : List (Decl ℕ)) (rs : List Range) → Sized (roles ds) rs → Unfolding (tie Wires ρ ds rs)
 unfolding tie Sized
@@ -175,31 +92,11 @@ tie-within ρ [] (r ∷ rs) z = absurd z
 tie-within ρ (d ∷ ds) [] z = absurd z
 tie-within ρ (d ∷ ds) (r ∷ rs) z = within-then (shape-within ρ (d .sort)) λ h. within-then (within-need _ 13 (omega arith) (omega arith)) λ _. within-then (tie-within ρ ds rs (z .1)) λ r. fine
 
-tie-suits : (ρ : Env) (ds : List (Decl ℕ)) (rs : List Range) {τ : Frame Range} → tie Wires ρ ds rs ≡ ok τ → Suits τ (roles ds)
-unfolding tie Suits
-tie-suits ρ [] [] e = rw (← (ok-inj e)) tt
-tie-suits ρ [] (r ∷ rs) e = absurd (no-ok e)
-tie-suits ρ (d ∷ ds) [] e = absurd (no-ok e)
-tie-suits ρ (d ∷ ds) (r ∷ rs) e =
-    inv _ _ e λ h eh e₁.
-    inv _ _ e₁ λ _ t e₂.
-    inv _ _ e₂ λ τ et e₃.
-    rw (← (ok-inj e₃)) ((λ w. sym (eqb→eq (h .size) (r .len) (need-yes _ _ t)) ∙ shape-one ρ (d .sort) eh w), tie-suits ρ ds rs et)
-
 declare-within : (ρ : Env) (ds : List (Decl ℕ)) (σ : Frame Range) (s : State) → Unfolding (declare ρ ds σ s)
 unfolding declare
 declare-within ρ [] σ s = fine
 declare-within ρ (d ∷ ds) σ s =
     within-then (within-at (d .name .place) (shape-within ρ (d .sort))) λ h. within-then (within-at (d .name .place) (within-need _ 16 (omega arith) (omega arith))) λ _. declare-within ρ ds _ _
-
-declare-suits : (ρ : Env) (ds : List (Decl ℕ)) (σ : Frame Range) (s : State) (E : List Role) {r : Frame Range × State} → Suits σ E → declare ρ ds σ s ≡ ok r → Suits (r .0) (E ++ roles ds)
-unfolding declare
-declare-suits ρ [] σ s E u e = rw (← (ok-inj e)) (subst (Suits σ) (sym (append-nil E)) u)
-declare-suits ρ (d ∷ ds) σ s E {r} u e =
-    inv-at _ _ _ e λ h eh e₁.
-    inv-at _ _ _ e₁ λ _ _ e₂.
-    subst (Suits (r .0)) (append-assoc E (roleOf (d .sort) ∷ []) (roles ds))
-    (declare-suits ρ ds _ _ (E ++ (roleOf (d .sort) ∷ [])) (suits-append σ _ E _ u (suits-one (roleOf (d .sort)) _ (shape-one ρ (d .sort) eh))) e₂)
 
 -- ---- calls
 
@@ -207,26 +104,14 @@ tick-within : (s : State) → Unfolding (tick s)
 unfolding tick
 tick-within s = within-then (within-need _ 15 (omega arith) (omega arith)) λ _. fine
 
-wires-single : (n : ℕ) (rs : List Range) → Sized (replicate n a-wire) rs → (length rs ≡ n) × T (singles Wires rs)
-unfolding Sized singles isWire
-wires-single zero [] z = (refl, tt)
-wires-single zero (r ∷ rs) z = absurd z
-wires-single (suc n) [] z = absurd z
-wires-single (suc n) (r ∷ rs) z =
-    let (l, t) = wires-single n rs (z .1) in
-    (ap suc l, yes-and (eqb (r .len) 1) (singles Wires rs) (subst (λ k. T (eqb k 1)) (sym (z .0 tt)) tt) t)
-
 -- what a call does, on wires that suit what it wants
 abbrev Acts : List Role → Act → Type 0
 Acts ws go = (p : ℕ) (vs : List ℤ) (rs : List Range) (s : State) → Sized ws rs → Unfolding (go p vs rs s)
 
 gate-within : (nin k : ℕ) → k < 10 → Acts (replicate (suc (inputsOf k)) a-wire) (addGate nin k)
-unfolding addGate emit ends
+unfolding addGate emit
 gate-within nin k h p vs rs s z =
-    let (l, t) = wires-single (suc (inputsOf k)) rs z in
-    let q : T (ltb k (length table) && eqb (length rs) (suc (inputsOf k)) && singles Wires rs) =
-    yes-and (ltb k (length table) && eqb (length rs) (suc (inputsOf k))) (singles Wires rs) (yes-and (ltb k (length table)) (eqb (length rs) (suc (inputsOf k))) (lt→ltb k 10 h) (subst (λ n. T (eqb n (suc (inputsOf k)))) (sym l) (eqb-refl (suc (inputsOf k))))) t in
-    is-there _ (ap (at p) (yes-need _ 8 q) ∙ done-at p)
+    is-there _ (ap (at p) (ends-fit k rs h z) ∙ done-at p)
     (within-at p (within-then (within-need _ 17 (omega arith) (omega arith)) λ _. within-then (within-need _ 18 (omega arith) (omega arith)) λ _. fine))
 
 turns-within : (p : ℕ) (f : ℤ → State → Out State) → ((v : ℤ) (s : State) → Unfolding (f v s)) → (v : ℤ) (n : ℕ) (s : State) → Unfolding (turns p f v n s)
@@ -267,9 +152,9 @@ module _ (nin : ℕ) (deeper : ℕ → Out Act) (sigs : List (List Role)) (below
       within-next (within-at p (tie-within _ (B .inputs ++ B .outputs) rs z)) λ τ et.
       within-next (within-at p (declare-within _ (B .locals) _ _)) λ r er.
       unfolds-within (namesOf B) (B .body) scoped _ _ _
-      (subst (Suits (r .0)) (named-all B) (declare-suits _ (B .locals) _ _ (map (λ n. a-generic) (B .generics) ++ portsOf B) (suits-append _ τ _ (portsOf B) (suits-blanks (B .generics)) (tie-suits _ (B .inputs ++ B .outputs) rs (at-ok p _ et))) (at-ok p _ er)))
+      (entered-suits _ B rs s (at-ok p _ et) (at-ok p _ er))
 
-nth-both : (sigs : List (List Role)) (Bs : List (Block ℕ Callee)) (b : ℕ) {ws : List Role} → BlocksOk sigs Bs → nth 7 (map portsOf Bs) b ≡ ok ws
+pub nth-both : (sigs : List (List Role)) (Bs : List (Block ℕ Callee)) (b : ℕ) {ws : List Role} → BlocksOk sigs Bs → nth 7 (map portsOf Bs) b ≡ ok ws
     → (B : Block ℕ Callee) × (nth 7 Bs b ≡ ok B) × (portsOf B ≡ ws) × StmtsOk sigs (namesOf B) (B .body)
 unfolding nth BlocksOk
 nth-both sigs [] b h e = absurd (no-ok e)
@@ -289,7 +174,7 @@ deep-within nin P scoped (suc d) b ws e =
           (subst (λ ws. Acts ws (enter nin (deep nin P d) B)) ports (enter-within nin (deep nin P d) (map portsOf (P .blocks)) (deep-within nin P scoped d) B body)));
     }
 
-nth-there : (sigs : List (List Role)) (Bs : List (Block ℕ Callee)) (n b : ℕ) → BlocksOk sigs Bs → b < length Bs → (B : Block ℕ Callee) × (nth n Bs b ≡ ok B) × StmtsOk sigs (namesOf B) (B .body)
+pub nth-there : (sigs : List (List Role)) (Bs : List (Block ℕ Callee)) (n b : ℕ) → BlocksOk sigs Bs → b < length Bs → (B : Block ℕ Callee) × (nth n Bs b ≡ ok B) × StmtsOk sigs (namesOf B) (B .body)
 unfolding nth BlocksOk
 nth-there sigs [] n b h l = absurd (omega arith)
 nth-there sigs (B ∷ Bs) n zero h l = (B, refl, h .0)
@@ -302,8 +187,7 @@ unfold-within P scoped =
     is-there _ eM
     (within-next (declare-within _ (M .inputs) _ _) λ i ei. within-next (declare-within _ (M .outputs) _ _) λ o eo. within-next (declare-within _ (M .locals) _ _) λ l el.
     within-then (unfolds-within _ _ (map portsOf (P .blocks)) (deep-within _ P scoped 15) (namesOf M) (M .body) body _ _ _
-    (subst (Suits (l .0)) (named-main M)
-    (declare-suits _ (M .locals) _ _ _ (declare-suits _ (M .outputs) _ _ _ (declare-suits _ (M .inputs) _ _ (map (λ n. a-generic) (M .generics)) (suits-blanks (M .generics)) ei) eo) el))) λ s. fine)
+    (main-suits _ M _ ei eo el)) λ s. fine)
 
 -- ---- flattening
 
