@@ -5,6 +5,7 @@ pub mod Adding
 pub mod Statements
 pub mod Quiet
 pub mod Loops
+pub mod Onward
 pub mod Steps
 pub mod Shelf
 pub mod Scope

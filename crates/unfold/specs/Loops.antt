@@ -19,10 +19,10 @@ use Rattle.values.specs.Sizes.{stops-first, stops-kind}
 use Rattle.values.specs.Loops.{HereTwo}
 use Rattle.unfold.specs.Header.{bodyW}
 use Rattle.unfold.specs.Statements.{HereStmts, Stop, afterCall, call-rest, call-sound, from-values, after-args, meant-below}
-use Rattle.unfold.specs.Quiet.{Quiet, Calm, Loud, quiet-append, quiet-values, quiet-args}
+use Rattle.unfold.specs.Quiet.{Quiet, Calm, Loud, soft, quiet-append, quiet-exp, quiet-values, quiet-args}
 
 module _ (len : ℕ) {t : List ℕ} {at last : ℕ} {p i : ℕ} {a b : Exp ℕ} {body rest : Stmts ℕ Callee} (h : HereStmts len t at last (loop p i a b body rest)) where
-  from-bounds : Lies t (at + 1 + 1) (expW slotW 0 a ++ (expW slotW 0 b ++ ((pack 8 0 (length (bodyW body)) ∷ bodyW body) ++ bodyW rest)))
+  pub from-bounds : Lies t (at + 1 + 1) (expW slotW 0 a ++ (expW slotW 0 b ++ ((pack 8 0 (length (bodyW body)) ∷ bodyW body) ++ bodyW rest)))
   unfolding stmtsW
   from-bounds = lies-rest (lies-rest (h .lies))
 
@@ -36,7 +36,7 @@ module _ (len : ℕ) {t : List ℕ} {at last : ℕ} {p i : ℕ} {a b : Exp ℕ} 
   from-loop-body : Lies t bodyAt ((pack 8 0 (length (bodyW body)) ∷ bodyW body) ++ bodyW rest)
   from-loop-body = lies-right (expW slotW 0 b) _ from-second
 
-  loop-ends : last ≡ bodyAt + 1 + length (bodyW body) + length (bodyW rest)
+  pub loop-ends : last ≡ bodyAt + 1 + length (bodyW body) + length (bodyW rest)
   unfolding stmtsW
   loop-ends = omega (
     arith,
@@ -46,7 +46,7 @@ module _ (len : ℕ) {t : List ℕ} {at last : ℕ} {p i : ℕ} {a b : Exp ℕ} 
     length-append (bodyW body) (bodyW rest),
   )
 
-  body-kind : kindOf (getD t bodyAt 0) ≡ 8
+  pub body-kind : kindOf (getD t bodyAt 0) ≡ 8
   body-kind = ap kindOf (lies-first from-loop-body) ∙ kind-of 8 0 (length (bodyW body)) (omega arith) (omega (arith, loop-ends, h .short))
 
   -- how many words the body has
@@ -94,6 +94,27 @@ module _ (len : ℕ) {t : List ℕ} {at last : ℕ} {p i : ℕ} {a b : Exp ℕ} 
   pub loop-rest : HereStmts len t (bodyAt + 1 + length (bodyW body)) last rest
   unfolding AllStmts
   loop-rest = record { lies = lies-right (bodyW body) (bodyW rest) (lies-rest from-loop-body); ends = loop-ends; limit = h .limit; short = h .short; sound = h .sound .5; text = h .text }
+
+  -- the index and the bounds
+  pub loop-calm : Calm t (at + 1) last (pack 7 0 i ∷ (expW slotW 0 a ++ expW slotW 0 b))
+  unfolding stmtsW AllStmts All Stop
+  loop-calm =
+      let n = length-append (expW slotW 0 a) (expW slotW 0 b) in
+      let e : at + 1 + length (pack 7 0 i ∷ (expW slotW 0 a ++ expW slotW 0 b)) ≡ bodyAt = omega (arith, n) in
+      let w : pack 7 0 i ∷ (expW slotW 0 a ++ (expW slotW 0 b ++ ((pack 8 0 (length (bodyW body)) ∷ bodyW body) ++ bodyW rest)))
+      ≡ (pack 7 0 i ∷ (expW slotW 0 a ++ expW slotW 0 b)) ++ ((pack 8 0 (length (bodyW body)) ∷ bodyW body) ++ bodyW rest) =
+      ap (λ l. pack 7 0 i ∷ l) (sym (append-assoc (expW slotW 0 a) (expW slotW 0 b) _)) in
+      record {
+        lies = lies-left (pack 7 0 i ∷ (expW slotW 0 a ++ expW slotW 0 b)) _ (subst (Lies t (at + 1)) w (lies-rest (h .lies)));
+        quiet = (
+          soft 7 0 i (omega arith) (omega (arith, h .sound .1)) (λ e. omega arith) (λ e. omega arith) (λ e. omega arith),
+          quiet-append (expW slotW 0 a) (expW slotW 0 b) (quiet-exp 0 2 a (omega arith) (grouped (CalleeOf len) len 2 a (h .sound .2)) (omega (arith, loop-ends, h .short)))
+              (quiet-exp 0 2 b (omega arith) (grouped (CalleeOf len) len 2 b (h .sound .3)) (omega (arith, loop-ends, h .short))),
+        );
+        within = omega (arith, n, loop-ends);
+        limit = h .limit;
+        stop = inr (inr (inr (subst (λ j. kindOf (getD t j 0) ≡ 8) (sym e) body-kind)));
+      }
 
 -- ---- a call's word, and the words of its parts
 

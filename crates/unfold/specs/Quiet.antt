@@ -28,10 +28,9 @@ Soft w = (kindOf w ≡ 3 → ⊥) × (kindOf w ≡ 6 → ⊥) × (kindOf w ≡ 8
 abbrev pub Quiet : List ℕ → Type 0
 Quiet ws = All Soft ws
 
-soft : (k h v : ℕ) → h < 8 → v < 33554432 → (k ≤ 2) ⊎ ((k ≡ 4) ⊎ (k ≡ 5)) → Soft (pack k h v)
-soft k h v a b (inl c) = ((λ e. omega (arith, kind-of k h v a b, e, c)), (λ e. omega (arith, kind-of k h v a b, e, c)), (λ e. omega (arith, kind-of k h v a b, e, c)))
-soft k h v a b (inr (inl c)) = ((λ e. omega (arith, kind-of k h v a b, e, c)), (λ e. omega (arith, kind-of k h v a b, e, c)), (λ e. omega (arith, kind-of k h v a b, e, c)))
-soft k h v a b (inr (inr c)) = ((λ e. omega (arith, kind-of k h v a b, e, c)), (λ e. omega (arith, kind-of k h v a b, e, c)), (λ e. omega (arith, kind-of k h v a b, e, c)))
+-- a word of another kind
+pub soft : (k h v : ℕ) → h < 8 → v < 33554432 → (k ≡ 3 → ⊥) → (k ≡ 6 → ⊥) → (k ≡ 8 → ⊥) → Soft (pack k h v)
+soft k h v a b x y z = let e = sym (kind-of k h v a b) in ((λ q. x (e ∙ q)), (λ q. y (e ∙ q)), (λ q. z (e ∙ q)))
 
 pub quiet-append : (a b : List ℕ) → Quiet a → Quiet b → Quiet (a ++ b)
 unfolding All
@@ -40,18 +39,23 @@ quiet-append (x ∷ a) b p q = (p .0, quiet-append a b (p .1) q)
 
 pub quiet-exp : (h l : ℕ) (e : Exp ℕ) → h < 8 → Grouped l e → length (expW slotW h e) < 33554432 → Quiet (expW slotW h e)
 unfolding expW All AllExp
-quiet-exp h l (number v) a g s = (soft 0 h v a (omega arith) (inl (omega arith)), tt)
-quiet-exp h l (name n) a g s = (soft 1 h n a (omega arith) (inl (omega arith)), tt)
+quiet-exp h l (number v) a g s = (soft 0 h v a (omega arith) (λ e. omega arith) (λ e. omega arith) (λ e. omega arith), tt)
+quiet-exp h l (name n) a g s = (soft 1 h n a (omega arith) (λ e. omega arith) (λ e. omega arith) (λ e. omega arith), tt)
 quiet-exp h l (neg e) a g s = quiet-exp (flip h) 0 e (flip-below h a) g s
-quiet-exp h l (group e) a g s = (soft 2 h (length (expW slotW 0 e)) a (omega arith) (inl (omega arith)), quiet-exp 0 2 e (omega arith) g (omega arith))
+quiet-exp h l (group e) a g s = (soft 2 h (length (expW slotW 0 e)) a (omega arith) (λ e. omega arith) (λ e. omega arith) (λ e. omega arith), quiet-exp 0 2 e (omega arith) g (omega arith))
 quiet-exp h l (both o d e) a g s =
     let n = length-append (expW slotW h d) (expW slotW (headOf o) e) in
     quiet-append (expW slotW h d) (expW slotW (headOf o) e) (quiet-exp h _ d a (g .1) (omega (arith, n))) (quiet-exp (headOf o) _ e (head-below o) (g .2) (omega (arith, n)))
 
+-- an argument's kind
+other : {k m : ℕ} → (4 ≡ m → ⊥) → (5 ≡ m → ⊥) → (k ≡ 4) ⊎ (k ≡ 5) → k ≡ m → ⊥
+other x y (inl c) e = x (sym c ∙ e)
+other x y (inr c) e = y (sym c ∙ e)
+
 quiet-arg : (k : ℕ) (a : Arg ℕ) → (k ≡ 4) ⊎ (k ≡ 5) → GroupedArg a → length (argW slotW k a) < 33554432 → Quiet (argW slotW k a)
 unfolding argW All AllArg
-quiet-arg k (whole x) c g s = (soft k 0 x (omega arith) (omega arith) (inr c), tt)
-quiet-arg k (part x e) c g s = (soft k 1 x (omega arith) (omega (arith, g .0)) (inr c), quiet-exp 0 2 e (omega arith) (g .1) (omega arith))
+quiet-arg k (whole x) c g s = (soft k 0 x (omega arith) (omega arith) (other (λ e. omega arith) (λ e. omega arith) c) (other (λ e. omega arith) (λ e. omega arith) c) (other (λ e. omega arith) (λ e. omega arith) c), tt)
+quiet-arg k (part x e) c g s = (soft k 1 x (omega arith) (omega (arith, g .0)) (other (λ e. omega arith) (λ e. omega arith) c) (other (λ e. omega arith) (λ e. omega arith) c) (other (λ e. omega arith) (λ e. omega arith) c), quiet-exp 0 2 e (omega arith) (g .1) (omega arith))
 
 pub quiet-args : (k : ℕ) (xs : List (Arg ℕ)) → (k ≡ 4) ⊎ (k ≡ 5) → All GroupedArg xs → length (listW (argW slotW k) xs) < 33554432 → Quiet (listW (argW slotW k) xs)
 unfolding listW All

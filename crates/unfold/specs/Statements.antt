@@ -37,7 +37,7 @@ unfolding Stop
 stop-goes t i last (inl h) = stops-end t i last h
 stop-goes t i last (inr h) = stops-kind t i last h
 
-stop-over : (t : List ℕ) (i last lo hi : ℕ) → Stop t last (λ k. (k < lo) ⊎ (hi < k)) i → amongOf t i last lo hi ≡ false
+pub stop-over : (t : List ℕ) (i last lo hi : ℕ) → Stop t last (λ k. (k < lo) ⊎ (hi < k)) i → amongOf t i last lo hi ≡ false
 unfolding Stop
 stop-over t i last lo hi (inl h) = over-end t i last lo hi h
 stop-over t i last lo hi (inr (inl h)) = over-below t i last lo hi h

@@ -3,7 +3,7 @@ ghost use mathlib.Core.Path.{_≡_};
 ghost use Prim.Native.Nat.{ℕ, _+_, _*_, _-_, _<_, _≤_};
 ghost use mathlib.Core.List.{List, _++_};
 ghost use lib.ListN.{length, getD};
-ghost use Rattle.rules.specs.Syntax.{Exp, Arg, Block, Callee};
+ghost use Rattle.rules.specs.Syntax.{Exp, Arg, Stmts, Block, Callee};
 ghost use Rattle.rules.specs.Values.{Env};
 ghost use Rattle.rules.specs.Frames.{Frame as Names};
 ghost use Rattle.rules.specs.Unfold.{Range, State};
@@ -12,6 +12,8 @@ ghost use Rattle.unfold.specs.Header.{HereBlock, WrittenBlock, afterGene
 ghost use Rattle.tape.specs.Layout.{valueOf};
 ghost use Rattle.unfold.specs.Quiet.{Calm, WrittenCalm};
 ghost use Rattle.unfold.specs.Opening.{WrittenOpen, Opens};
+ghost use Rattle.unfold.specs.Statements.{HereStmts};
+ghost use Rattle.unfold.specs.Onward.{WrittenStatement, later, Heads};
 ghost use Rattle.gates.specs.Shows.{Shows, Gives};
 ghost use Rattle.unfold.specs.Adding.{WrittenGate, Fits, added};
 ghost use Rattle.unfold.specs.Entering.{HereCall, WrittenCall, Collects, Offers, WrittenHeader, entered, Enters};
@@ -26,6 +28,13 @@ use tape::Kind;
 pub enum Entry {
     Body(usize, usize, usize),
     Wrong(usize),
+}
+
+// What a statement's first word tells, and its place: a primitive by its kind, a block by its number, a loop by its index.
+pub enum Head {
+    Gate(u16, usize),
+    Block(usize, usize),
+    Loop(usize, usize),
 }
 
 // A block that is entered, with the frame of its body.
@@ -232,4 +241,41 @@ fn after_parts(tape: &[u32], at: usize, end: usize) -> usize
         i += 1;
     }
     i
+}
+
+// The place after the statement at `at`: past its parts, and past its body where one stands there.
+pub fn after_statement(tape: &[u32], at: usize, end: usize) -> usize
+    requires { ⌜ WrittenStatement (now tape) at end ⌝ }
+    ensures { λ r. ⌜ ((len : ℕ) (c : Stmts ℕ Callee) → HereStmts len (now (tape .entry)) at end c → at < end → HereStmts len (now (tape .entry)) r end (later c) × (at < r)) ⌝ }
+{
+    let i = after_parts(tape, at + 1, end);
+    if frames::among(tape, i, end, Kind::BODY, Kind::BODY) {
+        return after_body(tape, i);
+    }
+    i
+}
+
+fn narrow(kind: usize) -> u16
+    requires { ⌜ kind < 65536 ⌝ }
+    ensures { λ r. ⌜ r ≡ kind ⌝ }
+{
+    kind as u16
+}
+
+// What the statement at `at` begins with. A call's word holds its place times 128, and a primitive's kind or ten more than a block's number.
+pub fn begins_with(tape: &[u32], at: usize, end: usize) -> Head
+    requires { ⌜ WrittenStatement (now tape) at end ⌝ }
+    ensures { λ r. ⌜ ((len : ℕ) (c : Stmts ℕ Callee) → HereStmts len (now (tape .entry)) at end c → at < end → Heads c r) ⌝ }
+{
+    let word = tape[at];
+    let value = tape::value_of(word);
+    if tape::kind_of(word) == Kind::LOOP {
+        return Head::Loop(tape::value_of(tape[at + 1]), value);
+    }
+    let place = value / 128;
+    let meant = value % 128;
+    if meant < 10 {
+        return Head::Gate(narrow(meant), place);
+    }
+    Head::Block(meant - 10, place)
 }
