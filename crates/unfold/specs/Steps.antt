@@ -17,15 +17,15 @@ use Rattle.unfold.specs.Opening.{opened}
 use Rattle.unfold.specs.Adding.{added}
 
 -- what an opened call is made of
-record Opened (ρ : Env) (σ : Names Range) (gs : List (Exp ℕ)) (args : List (Arg ℕ)) (B : Block ℕ Callee) (s : State) (vs : List ℤ) (r : Names Range × State) : Type 0 where
-  wires : List Range
-  names : Names Range
-  evals : evals ρ gs ≡ ok vs
-  resolves : resolves Wires ρ σ args ≡ ok wires
-  tie : tie Wires (generics vs) (B .inputs ++ B .outputs) wires ≡ ok names
-  declare : declare (generics vs) (B .locals) (blanks Wires (B .generics) ++ names) s ≡ ok r
+pub record Opened (ρ : Env) (σ : Names Range) (gs : List (Exp ℕ)) (args : List (Arg ℕ)) (B : Block ℕ Callee) (s : State) (vs : List ℤ) (r : Names Range × State) : Type 0 where
+  pub wires : List Range
+  pub names : Names Range
+  pub evals : evals ρ gs ≡ ok vs
+  pub resolves : resolves Wires ρ σ args ≡ ok wires
+  pub tie : tie Wires (generics vs) (B .inputs ++ B .outputs) wires ≡ ok names
+  pub declare : declare (generics vs) (B .locals) (blanks Wires (B .generics) ++ names) s ≡ ok r
 
-opened-parts : (ρ : Env) (σ : Names Range) (gs : List (Exp ℕ)) (args : List (Arg ℕ)) (B : Block ℕ Callee) (s : State) {vs : List ℤ} {r : Names Range × State} → opened ρ σ gs args B s ≡ ok (vs, r) → Opened ρ σ gs args B s vs r
+pub opened-parts : (ρ : Env) (σ : Names Range) (gs : List (Exp ℕ)) (args : List (Arg ℕ)) (B : Block ℕ Callee) (s : State) {vs : List ℤ} {r : Names Range × State} → opened ρ σ gs args B s ≡ ok (vs, r) → Opened ρ σ gs args B s vs r
 opened-parts ρ σ gs args B s {vs} {r} e =
     inv _ _ e λ vs₁ ev e₁.
     inv _ _ e₁ λ rs er e₂.
@@ -35,15 +35,15 @@ opened-parts ρ σ gs args B s {vs} {r} e =
     let y : r₁ ≡ r = ap (λ x. x .1) (ok-inj e₃) in
     subst (λ v. Opened ρ σ gs args B s v r) x (subst (λ r. Opened ρ σ gs args B s vs₁ r) y (record { wires = rs; names = τ; evals = ev; resolves = er; tie = eτ; declare = ed }))
 
-record Added (nin k : ℕ) (ρ : Env) (σ : Names Range) (gs : List (Exp ℕ)) (args : List (Arg ℕ)) (s t : State) : Type 0 where
-  values : List ℤ
-  wires : List Range
-  evals : evals ρ gs ≡ ok values
-  resolves : resolves Wires ρ σ args ≡ ok wires
-  ends : ends Wires k wires ≡ ok tt
-  emit : emit nin (gateOn k (map (λ r. r .base) wires)) s ≡ ok t
+pub record Added (nin k : ℕ) (ρ : Env) (σ : Names Range) (gs : List (Exp ℕ)) (args : List (Arg ℕ)) (s t : State) : Type 0 where
+  pub values : List ℤ
+  pub wires : List Range
+  pub evals : evals ρ gs ≡ ok values
+  pub resolves : resolves Wires ρ σ args ≡ ok wires
+  pub ends : ends Wires k wires ≡ ok tt
+  pub emit : emit nin (gateOn k (map (λ r. r .base) wires)) s ≡ ok t
 
-added-parts : (nin k : ℕ) (ρ : Env) (σ : Names Range) (gs : List (Exp ℕ)) (args : List (Arg ℕ)) (s : State) {t : State} → added nin k ρ σ gs args s ≡ ok t → Added nin k ρ σ gs args s t
+pub added-parts : (nin k : ℕ) (ρ : Env) (σ : Names Range) (gs : List (Exp ℕ)) (args : List (Arg ℕ)) (s : State) {t : State} → added nin k ρ σ gs args s ≡ ok t → Added nin k ρ σ gs args s t
 added-parts nin k ρ σ gs args s e =
     inv _ _ e λ vs ev e₁.
     inv _ _ e₁ λ rs er e₂.

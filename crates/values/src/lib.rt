@@ -3,7 +3,7 @@
 ghost use mathlib.Core.Path.{_≡_};
 ghost use Prim.Native.Nat.{ℕ, _+_, _*_, _-_, _<_, _≤_};
 ghost use lib.ListN.{length, getD};
-ghost use lib.IntN.{_-ℤ_};
+ghost use lib.IntN.{natAbs, sucℤ, _-ℤ_};
 ghost use Rattle.rules.specs.Syntax.{Exp, Sort};
 ghost use Rattle.rules.specs.Values.{eval, generics, shape};
 ghost use Rattle.tape.specs.Layout.{kindOf, headIn, valueOf};
@@ -320,4 +320,12 @@ pub fn span(tape: &[u32], values: &[i32; 48], at: usize, end: usize) -> Rounds
         Apart::Not => Rounds::From(x, 0, next),
         Apart::By(k) => Rounds::From(x, k + 1, next),
     }
+}
+
+// The index of the round after that of v.
+pub fn next_index(v: i32) -> i32
+    requires { ⌜ natAbs v < 2147483647 ⌝ }
+    ensures { λ r. ⌜ r ≡ sucℤ v ⌝ }
+{
+    v + 1
 }
