@@ -10,9 +10,10 @@ use Rattle.rules.specs.Outcome.{Out as Outcome, ok, refuse, _>>=_, at}
 use Rattle.rules.specs.Syntax.{Exp, Arg, Stmts, end, call, loop, Callee, gate, block, Program}
 use Rattle.rules.specs.Values.{Env}
 use Rattle.rules.specs.Frames.{Frame as Names}
-use Rattle.rules.specs.Unfold.{Range, State, Act, unfolds, tick}
+use Rattle.rules.specs.Unfold.{Range, State, Act, unfolds, tick, deep}
 use Rattle.rules.specs.Laws.Scoped.{portsOf, StmtsOk}
 use Rattle.rules.specs.Laws.Suits.{Suits}
+use Rattle.tape.specs.Encoding.{stmtsW}
 use Rattle.frames.specs.declared.Frame.{Frame}
 use Rattle.frames.specs.Stands.{Stands}
 use Rattle.gates.specs.declared.Counts.{Counts}
@@ -50,13 +51,89 @@ unfoldable pub Answers : Outcome State → Out → List ℕ → List Bool → Ty
 Answers o (Done s) net marks = (v : State) × (o ≡ ok v) × Shows v s net marks × (v .next ≤ 1536)
 Answers o (No n p) net marks = o ≡ refuse n p
 
-pub answers-as : {o q : Outcome State} {r : Out} {net : List ℕ} {marks : List Bool} → o ≡ q → Answers q r net marks → Answers o r net marks
-answers-as {r = r} {net = net} {marks = marks} e a = subst (λ o. Answers o r net marks) (sym e) a
-
 -- ---- a list of statements: the first, then the others
 
+-- what is done after a sequence is done after its last part
+pub along : {A B C : Type 0} (o : Outcome A) (f : A → Outcome B) (K : B → Outcome C) (g : A → Outcome C) → ((a : A) → (f a >>= K) ≡ g a) → ((o >>= f) >>= K) ≡ (o >>= g)
+unfolding _>>=_
+along (ok a) f K g h = h a
+along (refuse n p) f K g h = refl
+
+pub refused : {A B : Type 0} {o : Outcome A} (K : A → Outcome B) {n p : ℕ} → o ≡ refuse n p → (o >>= K) ≡ refuse n p
+unfolding _>>=_
+refused K e = rw e
+
+pub went : {A B : Type 0} {o : Outcome A} (K : A → Outcome B) {a : A} → o ≡ ok a → (o >>= K) ≡ K a
+unfolding _>>=_
+went K e = rw e
+
 module _ (nin : ℕ) (deeper : ℕ → Outcome Act) (ρ : Env) (σ : Names Range) where
-  then-end : (o : Outcome State) → (o >>= λ s. unfolds nin deeper end ρ σ s) ≡ o
+  pub then-end : (o : Outcome State) → (o >>= λ s. unfolds nin deeper end ρ σ s) ≡ o
   unfolding _>>=_ unfolds
   then-end (ok s) = refl
   then-end (refuse n p) = refl
+
+  pub at-end : (s : State) → unfolds nin deeper end ρ σ s ≡ ok s
+  unfolding unfolds
+  at-end s = refl
+
+  pub first-then : (c : Stmts ℕ Callee) (v : State) → unfolds nin deeper c ρ σ v ≡ (unfolds nin deeper (alone c) ρ σ v >>= λ v. unfolds nin deeper (later c) ρ σ v)
+  unfolding unfolds alone later
+  first-then end v = sym (went _ refl)
+  first-then (call p c gs ins outs rest) v = sym (along _ _ _ _ λ s. along _ _ _ _ λ go. along _ _ _ _ λ vs. along _ _ _ _ λ rs. along _ _ _ _ λ s. went _ refl)
+  first-then (loop p i a b body rest) v = sym (along _ _ _ _ λ s. along _ _ _ _ λ x. along _ _ _ _ λ y. along _ _ _ _ λ s. went _ refl)
+
+later-scoped : (sigs : List (List Role)) (E : List Role) (c : Stmts ℕ Callee) → StmtsOk sigs E c → StmtsOk sigs E (later c)
+unfolding StmtsOk later
+later-scoped sigs E end h = h
+later-scoped sigs E (call p c gs ins outs rest) h = h .1
+later-scoped sigs E (loop p i a b body rest) h = h .1
+
+-- ---- the statements from `at` on: those left at i are still to be unfolded
+
+pub record Going (nin left len : ℕ) (P : Program) (t places : List ℕ) (last end : ℕ) (f : Frame) (c : Stmts ℕ Callee) (ρ : Env) (σ : Names Range) (v : State) (i : ℕ) (s : Counts) (net : List ℕ) (marks : List Bool) : Type 0 where
+  pub rest : Stmts ℕ Callee
+  pub state : State
+  pub task : Task len P t places last i end f s net marks rest ρ σ state
+  pub same : unfolds nin (deep nin P left) c ρ σ v ≡ unfolds nin (deep nin P left) rest ρ σ state
+
+module _ (nin left len : ℕ) (P : Program) (t places : List ℕ) (last end₁ : ℕ) (f : Frame) (c : Stmts ℕ Callee) (ρ : Env) (σ : Names Range) (v : State) where
+  pub going-begin : {i : ℕ} {s : Counts} {net : List ℕ} {marks : List Bool} → Task len P t places last i end₁ f s net marks c ρ σ v → Going nin left len P t places last end₁ f c ρ σ v i s net marks
+  going-begin k = record { rest = c; state = v; task = k; same = refl }
+
+  module _ {i : ℕ} {s : Counts} {net : List ℕ} {marks : List Bool} (g : Going nin left len P t places last end₁ f c ρ σ v i s net marks) where
+    pub going-stop : {n p : ℕ} → unfolds nin (deep nin P left) (alone (g .rest)) ρ σ (g .state) ≡ refuse n p → unfolds nin (deep nin P left) c ρ σ v ≡ refuse n p
+    going-stop e = g .same ∙ first-then nin (deep nin P left) ρ σ (g .rest) (g .state) ∙ refused _ e
+
+    pub going-on : {j : ℕ} {u : Counts} {net′ : List ℕ} {marks′ : List Bool} → Answers (unfolds nin (deep nin P left) (alone (g .rest)) ρ σ (g .state)) (Done u) net′ marks′
+        → HereStmts len t j end₁ (later (g .rest)) → Going nin left len P t places last end₁ f c ρ σ v j u net′ marks′
+    unfolding Answers
+    going-on (w, e, shows, few) h = record {
+      rest = later (g .rest);
+      state = w;
+      task = record { shelf = g .task .shelf; here = h; roles = g .task .roles; scoped = later-scoped _ _ (g .rest) (g .task .scoped); suits = g .task .suits; stands = g .task .stands; shows = shows; wires = few };
+      same = g .same ∙ first-then nin (deep nin P left) ρ σ (g .rest) (g .state) ∙ went _ e;
+    }
+
+    none-left : (c : Stmts ℕ Callee) → HereStmts len t i end₁ c → end₁ ≤ i → c ≡ end
+    unfolding stmtsW
+    none-left end h l = refl
+    none-left (call p m gs ins outs rest) h l = absurd (omega (arith, h .ends))
+    none-left (loop p k a b body rest) h l = absurd (omega (arith, h .ends))
+
+    pub going-end : end₁ ≤ i → Answers (unfolds nin (deep nin P left) c ρ σ v) (Done s) net marks
+    unfolding Answers
+    going-end l = (
+      g .state,
+      g .same ∙ ap (λ c. unfolds nin (deep nin P left) c ρ σ (g .state)) (none-left (g .rest) (g .task .here) l) ∙ at-end nin (deep nin P left) ρ σ (g .state),
+      g .task .shows,
+      g .task .wires,
+    )
+
+    pub going-ready : 5124 ≤ length net → Ready t places last i end₁ f s net marks
+    going-ready l = record { text = len; program = P; statements = g .rest; env = ρ; names = σ; state = g .state; task = g .task; room = l }
+
+-- a statement stands where a task begins
+pub task-written : {len : ℕ} {P : Program} {t places : List ℕ} {last i end₁ : ℕ} {f : Frame} {s : Counts} {net : List ℕ} {marks : List Bool} {c : Stmts ℕ Callee} {ρ : Env} {σ : Names Range} {v : State}
+    → Task len P t places last i end₁ f s net marks c ρ σ v → i < end₁ → WrittenStatement t i end₁
+task-written {len} {c = c} k l = record { text = len; statements = c; here = k .here; some = l }
