@@ -1,0 +1,4 @@
+pub mod Held
+pub mod Bodies
+pub mod Numbered
+pub mod Starts
