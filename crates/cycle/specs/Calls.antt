@@ -69,6 +69,15 @@ suits-many (x ∷ σ) (r ∷ E) u = ap suc (suits-many σ E (u .1))
 
 -- ---- the parts of a call
 
+-- there is a task that begins with a call, or with a loop
+pub record CallReady (m : Callee) (p : ℕ) (t places : List ℕ) (last at end₁ : ℕ) (f : Frame) (s : Counts) (net : List ℕ) (marks : List Bool) : Type 0 where
+  pub ready : Ready t places last at end₁ f s net marks
+  pub is : IsCall m p (ready .statements)
+
+pub record LoopReady (i p : ℕ) (t places : List ℕ) (last at end₁ : ℕ) (f : Frame) (s : Counts) (net : List ℕ) (marks : List Bool) : Type 0 where
+  pub ready : Ready t places last at end₁ f s net marks
+  pub is : IsLoop i p (ready .statements)
+
 -- a call at p, of what is called m, in the use whose names are σ
 pub record CallHere (t : List ℕ) (at end₁ n : ℕ) (m : Callee) (p : ℕ) (c : Stmts ℕ Callee) : Type 0 where
   pub generics : List (Exp ℕ)

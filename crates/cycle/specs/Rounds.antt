@@ -113,9 +113,9 @@ module _ {len : ℕ} {P : Program} {t places : List ℕ} {last at end₁ : ℕ} 
         ∙ then-end nin (deep nin P left) ρ σ _
 
 -- how far indices go
-pub span-small : {ρ : Env} {a b : Exp ℕ} {n k m : ℕ} {x : ℤ} → Turns ρ a b n (From x k m) → (natAbs x ≤ 1000000) × (k ≤ 2000001)
+pub span-small : (ρ : Env) (a b : Exp ℕ) (n k m : ℕ) (x : ℤ) → Turns ρ a b n (From x k m) → (natAbs x ≤ 1000000) × (k ≤ 2000001)
 unfolding Turns
-span-small {ρ} {a} {b} {x = x} (y, ea, eb, ek, em) = let u = eval-small ρ a ea in (u, omega (arith, ek, rounds-small x y u (eval-small ρ b eb)))
+span-small ρ a b n k m x (y, ea, eb, ek, em) = let u = eval-small ρ a ea in (u, omega (arith, ek, rounds-small x y u (eval-small ρ b eb)))
 
 -- ---- rounds: 15, then the body
 
@@ -145,7 +145,7 @@ pub record Turning (nin left len : ℕ) (P : Program) (t places : List ℕ) (las
 
 module _ (nin left len : ℕ) (P : Program) (t places : List ℕ) (last at end₁ : ℕ) (f : Frame) (i p : ℕ) (c : Stmts ℕ Callee) (ρ : Env) (σ : Names Range) (v : State) (first : ℤ) (count : ℕ) where
   pub turning-begin : {s : Counts} {net : List ℕ} {marks : List Bool} → Task len P t places last at end₁ f s net marks c ρ σ v → Turning nin left len P t places last at end₁ f i p c ρ σ v first count 0 first s net marks
-  turning-begin k = record { state = v; task = k; same = refl }
+  turning-begin k = let e : count ≡ count - 0 = omega arith in record { state = v; task = k; same = ap (λ n. turns p (round nin left P i c ρ σ) first n v) e }
 
   module _ {k : ℕ} {x : ℤ} {s : Counts} {net : List ℕ} {marks : List Bool} (g : Turning nin left len P t places last at end₁ f i p c ρ σ v first count k x s net marks) where
     abbrev next-is : k < count → turns p (round nin left P i c ρ σ) first count v ≡ (rounded nin left P i p c ρ σ x (g .state) >>= λ u. turns p (round nin left P i c ρ σ) (sucℤ x) (count - (k + 1)) u)
