@@ -192,6 +192,26 @@ module _ {t : List ℕ} {at end : ℕ} {B : Block ℕ Callee} (h : HereBlock t a
     over = ⊎-elim (λ p. over-below t _ end 10 10 p) (λ p. over-above t _ end 10 10 p) (kind-inputs (λ k. (k < 10) ⊎ (10 < k)) (inr (omega arith)) (inr (omega arith)) (inr (omega arith)) (inl (omega arith)));
   }
 
+  pub here-inputs : Listed t (afterGenerics at B) end 11 11 (nameWords 11) (B .inputs)
+  here-inputs = record {
+    lies = lies-left (listW inW (B .inputs)) _ from-inputs;
+    within = omega (arith, room);
+    limit = h .limit;
+    short = h .short;
+    stops = stops-kind t _ end (kind-outputs (λ k. 2 < k) (omega arith) (omega arith) (omega arith));
+    over = ⊎-elim (λ p. over-below t _ end 11 11 p) (λ p. over-above t _ end 11 11 p) (kind-outputs (λ k. (k < 11) ⊎ (11 < k)) (inr (omega arith)) (inr (omega arith)) (inl (omega arith)));
+  }
+
+  pub here-outputs : Listed t (afterInputs at B) end 12 12 (nameWords 12) (B .outputs)
+  here-outputs = record {
+    lies = lies-left (listW outW (B .outputs)) _ from-outputs;
+    within = omega (arith, room);
+    limit = h .limit;
+    short = h .short;
+    stops = stops-kind t _ end (kind-locals (λ k. 2 < k) (omega arith) (omega arith));
+    over = ⊎-elim (λ p. over-below t _ end 12 12 p) (λ p. over-above t _ end 12 12 p) (kind-locals (λ k. (k < 12) ⊎ (12 < k)) (inr (omega arith)) (inl (omega arith)));
+  }
+
   pub here-locals : Listed t (afterPorts at B) end 13 13 (nameWords 13) (B .locals)
   here-locals = record {
     lies = lies-left (listW (nameWords 13) (B .locals)) _ from-locals;

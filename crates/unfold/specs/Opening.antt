@@ -27,7 +27,7 @@ unfolding resolves
 resolves-many ρ σ [] e = ap length (sym (ok-inj e))
 resolves-many ρ σ (a ∷ args) e = inv _ _ e λ r _ e₁. inv _ _ e₁ λ rs er e₂. ap length (sym (ok-inj e₂)) ∙ ap suc (resolves-many ρ σ args er)
 
-declare-many : (ρ : Env) (ds : List (Decl ℕ)) (σ : Names Range) (s : State) {r : Names Range × State} → declare ρ ds σ s ≡ ok r → length (r .0) ≡ length σ + length ds
+pub declare-many : (ρ : Env) (ds : List (Decl ℕ)) (σ : Names Range) (s : State) {r : Names Range × State} → declare ρ ds σ s ≡ ok r → length (r .0) ≡ length σ + length ds
 unfolding declare
 declare-many ρ [] σ s e = rw (← (ok-inj e)) (omega arith)
 declare-many ρ (d ∷ ds) σ s e =

@@ -44,7 +44,7 @@ pub struct Opened {
 }
 
 // The place after the generics of a block, whose words begin at `at`.
-fn after_generics(tape: &[u32], at: usize, end: usize) -> usize
+pub fn after_generics(tape: &[u32], at: usize, end: usize) -> usize
     requires { ⌜ WrittenBlock (now tape) at end ⌝ }
     ensures { λ r. ⌜ ((B : Block ℕ Callee) → HereBlock (now (tape .entry)) at end B → (r ≡ afterGenerics at B) × (r ≡ at + 1 + length (B .generics))) ⌝ }
 {
@@ -116,7 +116,7 @@ fn enter(
 }
 
 // The place after a body whose word is at `at`.
-fn after_body(tape: &[u32], at: usize) -> usize
+pub fn after_body(tape: &[u32], at: usize) -> usize
     requires { ⌜ (at < length (now tape)) × (at < 33554432) ⌝ }
     ensures { λ r. ⌜ r ≡ at + 1 + valueOf (getD (now (tape .entry)) at 0) ⌝ }
 {
