@@ -131,11 +131,12 @@ pub gate-answers : (nin left : ℕ) (P : Program) (ρ : Env) (σ : Names Range) 
 unfolding Gives Answers answered
 gate-answers nin left P ρ σ v v₁ {k = k} {p = p} (Went s) net marks g e few (u, a, shows) =
     let gs = g .call .generics in
-    let b = added-parts nin k ρ σ gs (g .call .inputs ++ g .call .outputs) v₁ a in
-    (u,
+    let b = added-parts nin k ρ σ gs (g .call .inputs ++ g .call .outputs) v₁ a in (
+      u,
       ap (λ c. unfolds nin (deep nin P left) c ρ σ v) (g .call .is) ∙ gate-added nin (deep nin P left) p gs (g .call .inputs) (g .call .outputs) end ρ σ v k e a ∙ at-end nin (deep nin P left) ρ σ u,
       shows,
-      omega (arith, few, emit-next nin _ v₁ (b .emit)))
+      omega (arith, few, emit-next nin _ v₁ (b .emit)),
+    )
 gate-answers nin left P ρ σ v v₁ {k = k} {p = p} (Stopped n) net marks g e few a =
     ap (λ c. unfolds nin (deep nin P left) c ρ σ v) (g .call .is) ∙ gate-refused nin (deep nin P left) p (g .call .generics) (g .call .inputs) (g .call .outputs) end ρ σ v k e a
 
@@ -198,23 +199,51 @@ module _ {len : ℕ} {P : Program} {t places : List ℕ} {last at end₁ : ℕ} 
       }
 
   module _ (nin : ℕ) (v : State) (e : tick v ≡ ok v₁) where
-    deep-there : (d : ℕ) → deep nin P (suc d) b ≡ ok (enter nin (deep nin P d) (h .body))
+    deep-there : (left : ℕ) → (left ≡ 0 → ⊥) → deep nin P left b ≡ ok (enter nin (deep nin P (left - 1)) (h .body))
     unfolding deep _>>=_
-    deep-there d = rw (h .nth)
+    deep-there zero n = absurd (n refl)
+    deep-there (suc d) n = let e : suc d - 1 ≡ d = omega arith in rw (h .nth, e)
 
     abbrev here-is : (left : ℕ) → unfolds nin (deep nin P left) (alone c) ρ σ v ≡ unfolds nin (deep nin P left) (call p (block b) (h .call .generics) (h .call .inputs) (h .call .outputs) end) ρ σ v
     here-is left = ap (λ c. unfolds nin (deep nin P left) c ρ σ v) (h .call .is)
 
     -- 14
-    pub block-at-17 : unfolds nin (deep nin P 0) (alone c) ρ σ v ≡ refuse 14 p
+    pub block-at-17 : (left : ℕ) → left ≡ 0 → unfolds nin (deep nin P left) (alone c) ρ σ v ≡ refuse 14 p
     unfolding deep
-    block-at-17 = here-is 0 ∙ block-deep nin (deep nin P 0) p _ _ _ end ρ σ v b e refl
+    block-at-17 zero n = here-is 0 ∙ block-deep nin (deep nin P 0) p _ _ _ end ρ σ v b e refl
+    block-at-17 (suc d) n = absurd (omega arith)
 
-    pub block-stopped : (d : ℕ) {k q : ℕ} → opened ρ σ (h .call .generics) (h .call .inputs ++ h .call .outputs) (h .body) v₁ ≡ refuse k q → unfolds nin (deep nin P (suc d)) (alone c) ρ σ v ≡ refuse k p
-    block-stopped d o = here-is (suc d) ∙ block-refused nin (deep nin P (suc d)) p _ _ _ end ρ σ v b (deep nin P d) (h .body) e (deep-there d) o
+    pub block-stopped : (left : ℕ) → (left ≡ 0 → ⊥) → {k q : ℕ} → opened ρ σ (h .call .generics) (h .call .inputs ++ h .call .outputs) (h .body) v₁ ≡ refuse k q → unfolds nin (deep nin P left) (alone c) ρ σ v ≡ refuse k p
+    block-stopped left n o = here-is left ∙ block-refused nin (deep nin P left) p _ _ _ end ρ σ v b (deep nin P (left - 1)) (h .body) e (deep-there left n) o
 
-    pub block-entered : (d : ℕ) {from to w : ℕ} {g : Frame} (o : Open ρ σ (h .call .generics) (h .call .inputs ++ h .call .outputs) (h .body) v₁ (getD places b 0) from to w g)
-        → unfolds nin (deep nin P (suc d)) (alone c) ρ σ v ≡ unfolds nin (deep nin P d) (h .body .body) (generics (o .values)) (o .names) (upTo v₁ w)
-    block-entered d o =
-        here-is (suc d) ∙ block-opened nin (deep nin P (suc d)) p _ _ _ end ρ σ v b (deep nin P d) (h .body) e (deep-there d) (o .is)
-        ∙ then-end nin (deep nin P (suc d)) ρ σ _
+    pub block-entered : (left : ℕ) → (left ≡ 0 → ⊥) → {from to w : ℕ} {g : Frame} (o : Open ρ σ (h .call .generics) (h .call .inputs ++ h .call .outputs) (h .body) v₁ (getD places b 0) from to w g)
+        → unfolds nin (deep nin P left) (alone c) ρ σ v ≡ unfolds nin (deep nin P (left - 1)) (h .body .body) (generics (o .values)) (o .names) (upTo v₁ w)
+    block-entered left n o =
+        here-is left ∙ block-opened nin (deep nin P left) p _ _ _ end ρ σ v b (deep nin P (left - 1)) (h .body) e (deep-there left n) (o .is)
+        ∙ then-end nin (deep nin P left) ρ σ _
+
+-- ---- what `open` says, by its answer
+
+pub opens-body : (ρ : Env) (σ : Names Range) (gs : List (Exp ℕ)) (args : List (Arg ℕ)) (B : Block ℕ Callee) (s : State) (place place′ : ℕ) (e : Entry) (f : Frame) {from to w : ℕ} → place ≡ place′ → e ≡ Body from to w
+    → Opens ρ σ gs args B s place e f → Open ρ σ gs args B s place′ from to w f
+unfolding Opens
+opens-body ρ σ gs args B s place place′ e f {from} {to} {w} x y o = subst (λ q. Open ρ σ gs args B s q from to w f) x (subst (λ e. Opens ρ σ gs args B s place e f) y o)
+
+pub opens-wrong : (ρ : Env) (σ : Names Range) (gs : List (Exp ℕ)) (args : List (Arg ℕ)) (B : Block ℕ Callee) (s : State) (place : ℕ) (e : Entry) (f : Frame) {k : ℕ} → e ≡ Wrong k → Opens ρ σ gs args B s place e f
+    → (q : ℕ) × (opened ρ σ gs args B s ≡ refuse k q)
+unfolding Opens
+opens-wrong ρ σ gs args B s place e f {k} y o = subst (λ e. Opens ρ σ gs args B s place e f) y o
+
+-- ---- what the first word says, by its kind
+
+pub is-gate : (c : Stmts ℕ Callee) (h : Head) {k p : ℕ} → h ≡ Gate k p → Heads c h → (k < 10) × IsCall (gate k) p c
+unfolding Heads
+is-gate c h e a = subst (Heads c) e a
+
+pub is-block : (c : Stmts ℕ Callee) (h : Head) {b p : ℕ} → h ≡ Called b p → Heads c h → (b < 64) × IsCall (block b) p c
+unfolding Heads
+is-block c h e a = subst (Heads c) e a
+
+pub is-loop : (c : Stmts ℕ Callee) (h : Head) {i p : ℕ} → h ≡ Loop i p → Heads c h → (i < 48) × IsLoop i p c
+unfolding Heads
+is-loop c h e a = subst (Heads c) e a

@@ -112,10 +112,27 @@ module _ {len : ℕ} {P : Program} {t places : List ℕ} {last at end₁ : ℕ} 
         here-is ∙ loop-rounds nin (deep nin P left) p i (h .first) (h .second) (h .body) end ρ σ v e (sym known-first ∙ a) (sym known-second ∙ b)
         ∙ then-end nin (deep nin P left) ρ σ _
 
--- how far indices go
-pub span-small : (ρ : Env) (a b : Exp ℕ) (n k m : ℕ) (x : ℤ) → Turns ρ a b n (From x k m) → (natAbs x ≤ 1000000) × (k ≤ 2000001)
+-- what `span` says, where the bounds are in range
+pub record Spanned (ρ : Env) (a b : Exp ℕ) (place : ℕ) (x : ℤ) (k m : ℕ) : Type 0 where
+  pub to : ℤ
+  pub left : eval ρ a ≡ ok x
+  pub right : eval ρ b ≡ ok to
+  pub count : k ≡ rounds (to -ℤ x)
+  pub place : m ≡ place
+  -- how far indices go
+  pub small : natAbs x ≤ 1000000
+  pub few : k ≤ 2000001
+
+pub spanned : (ρ : Env) (a b : Exp ℕ) (n place : ℕ) (r : Rounds) {x : ℤ} {k m : ℕ} → place ≡ n → r ≡ From x k m → Turns ρ a b n r → Spanned ρ a b place x k m
 unfolding Turns
-span-small ρ a b n k m x (y, ea, eb, ek, em) = let u = eval-small ρ a ea in (u, omega (arith, ek, rounds-small x y u (eval-small ρ b eb)))
+spanned ρ a b n place r {x} {k} {m} p e t =
+    let (y, ea, eb, ek, em) = subst (Turns ρ a b n) e t in
+    let u = eval-small ρ a ea in
+    record { to = y; left = ea; right = eb; count = ek; place = em ∙ sym p; small = u; few = omega (arith, ek, rounds-small x y u (eval-small ρ b eb)) }
+
+pub not-spanned : (ρ : Env) (a b : Exp ℕ) (n : ℕ) (r : Rounds) {k : ℕ} → r ≡ Wrong k → Turns ρ a b n r → both-bounds ρ a b ≡ refuse k 0
+unfolding Turns
+not-spanned ρ a b n r e t = subst (Turns ρ a b n) e t
 
 -- ---- rounds: 15, then the body
 
@@ -169,6 +186,3 @@ module _ (nin left len : ℕ) (P : Program) (t places : List ℕ) (last at end�
     turning-end l =
         let e : count - k ≡ 0 = omega arith in
         (g .state, g .same ∙ ap (λ n. turns p (round nin left P i c ρ σ) x n (g .state)) e, g .task .shows, g .task .wires)
-
-    pub turning-ready : 5124 ≤ length net → Ready t places last at end₁ f s net marks
-    turning-ready l = record { text = len; program = P; statements = c; env = ρ; names = σ; state = g .state; task = g .task; room = l }

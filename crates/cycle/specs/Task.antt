@@ -11,13 +11,16 @@ use Rattle.rules.specs.Syntax.{Exp, Arg, Stmts, end, call, loop, Callee, gate, 
 use Rattle.rules.specs.Values.{Env}
 use Rattle.rules.specs.Frames.{Frame as Names}
 use Rattle.rules.specs.Unfold.{Range, State, Act, unfolds, tick, deep}
+use Rattle.rules.specs.Laws.Outcomes.{ok-inj, inv}
 use Rattle.rules.specs.Laws.Scoped.{portsOf, StmtsOk}
 use Rattle.rules.specs.Laws.Suits.{Suits}
 use Rattle.tape.specs.Encoding.{stmtsW}
 use Rattle.frames.specs.declared.Frame.{Frame}
 use Rattle.frames.specs.Stands.{Stands}
 use Rattle.gates.specs.declared.Counts.{Counts}
-use Rattle.gates.specs.Shows.{Shows}
+use Rattle.gates.specs.declared.Step.{Step}
+use Rattle.gates.specs.declared.Step.the-variants.{Done as Went, Wrong as Stopped}
+use Rattle.gates.specs.Shows.{Shows, Gives}
 use Rattle.unfold.specs.Statements.{HereStmts}
 use Rattle.unfold.specs.Onward.{later, alone, WrittenStatement}
 use Rattle.unfold.specs.Shelf.{Shelf}
@@ -50,6 +53,20 @@ pub record Ready (t places : List ℕ) (last at end : ℕ) (f : Frame) (s : Coun
 unfoldable pub Answers : Outcome State → Out → List ℕ → List Bool → Type 0
 Answers o (Done s) net marks = (v : State) × (o ≡ ok v) × Shows v s net marks × (v .next ≤ 1536)
 Answers o (No n p) net marks = o ≡ refuse n p
+
+pub no-answer : {o : Outcome State} {n p : ℕ} (net : List ℕ) (marks : List Bool) → o ≡ refuse n p → Answers o (No n p) net marks
+unfolding Answers
+no-answer net marks e = e
+
+pub refusal : {o : Outcome State} {r : Out} {n p : ℕ} (net : List ℕ) (marks : List Bool) → r ≡ No n p → Answers o r net marks → o ≡ refuse n p
+unfolding Answers
+refusal {o} net marks e a = subst (λ r. Answers o r net marks) e a
+
+pub answers-as : {o q : Outcome State} (r : Out) (net : List ℕ) (marks : List Bool) → o ≡ q → Answers q r net marks → Answers o r net marks
+answers-as r net marks e a = subst (λ o. Answers o r net marks) (sym e) a
+
+pub success : {o : Outcome State} {r : Out} {s : Counts} (net : List ℕ) (marks : List Bool) → r ≡ Done s → Answers o r net marks → Answers o (Done s) net marks
+success {o} net marks e a = subst (λ r. Answers o r net marks) e a
 
 -- ---- a list of statements: the first, then the others
 
@@ -130,10 +147,47 @@ module _ (nin left len : ℕ) (P : Program) (t places : List ℕ) (last end₁ :
       g .task .wires,
     )
 
-    pub going-ready : 5124 ≤ length net → Ready t places last i end₁ f s net marks
-    going-ready l = record { text = len; program = P; statements = g .rest; env = ρ; names = σ; state = g .state; task = g .task; room = l }
-
 -- a statement stands where a task begins
 pub task-written : {len : ℕ} {P : Program} {t places : List ℕ} {last i end₁ : ℕ} {f : Frame} {s : Counts} {net : List ℕ} {marks : List Bool} {c : Stmts ℕ Callee} {ρ : Env} {σ : Names Range} {v : State}
     → Task len P t places last i end₁ f s net marks c ρ σ v → i < end₁ → WrittenStatement t i end₁
 task-written {len} {c = c} k l = record { text = len; statements = c; here = k .here; some = l }
+
+-- a step was begun
+tick-next : (v : State) {u : State} → tick v ≡ ok u → u .next ≡ v .next
+unfolding tick
+tick-next v e = inv _ _ e λ _ _ e₁. ap (λ u. u .next) (sym (ok-inj e₁))
+
+pub record Ticked (len : ℕ) (P : Program) (t places : List ℕ) (last at end : ℕ) (f : Frame) (s : Counts) (net : List ℕ) (marks : List Bool) (c : Stmts ℕ Callee) (ρ : Env) (σ : Names Range) (v : State) : Type 0 where
+  pub state : State
+  pub is : tick v ≡ ok state
+  pub task : Task len P t places last at end f s net marks c ρ σ state
+
+pub ticked : {len : ℕ} {P : Program} {t places : List ℕ} {last at end₁ : ℕ} {f : Frame} {s : Counts} {net : List ℕ} {marks : List Bool} {c : Stmts ℕ Callee} {ρ : Env} {σ : Names Range} {v : State} (u : Counts)
+    → Task len P t places last at end₁ f s net marks c ρ σ v → Gives (tick v) (Went u) net marks → Ticked len P t places last at end₁ f u net marks c ρ σ v
+unfolding Gives
+ticked {v = v} u k (w, e, shows) = record {
+  state = w;
+  is = e;
+  task = record { shelf = k .shelf; here = k .here; roles = k .roles; scoped = k .scoped; suits = k .suits; stands = k .stands; shows = shows; wires = omega (arith, k .wires, tick-next v e) };
+}
+
+-- what a step's function says of every state that it is shown
+abbrev pub Steps : Counts → Step → Type 0
+Steps s r = (v : State) (net : List ℕ) (marks : List Bool) → Shows v s net marks → Gives (tick v) r net marks
+
+pub ticked-by : {len : ℕ} {P : Program} {t places : List ℕ} {last at end₁ : ℕ} {f : Frame} {s : Counts} {net : List ℕ} {marks : List Bool} {c : Stmts ℕ Callee} {ρ : Env} {σ : Names Range} {v : State} {r : Step} {u : Counts}
+    → r ≡ Went u → Steps s r → Task len P t places last at end₁ f s net marks c ρ σ v → Ticked len P t places last at end₁ f u net marks c ρ σ v
+ticked-by {s = s} {net = net} {marks = marks} {v = v} {u = u} e h k = ticked u k (subst (Steps s) e h v net marks (k .shows))
+
+pub late-by : {v : State} {s : Counts} {net : List ℕ} {marks : List Bool} {r : Step} {n : ℕ} → r ≡ Stopped n → Steps s r → Shows v s net marks → tick v ≡ refuse n 0
+unfolding Gives
+late-by {v} {s} {net} {marks} e h k = subst (Steps s) e h v net marks k
+
+-- an index is bound for a round
+pub bound-task : {len : ℕ} {P : Program} {t places : List ℕ} {last at end₁ : ℕ} {f g : Frame} {s : Counts} {net : List ℕ} {marks : List Bool} {c : Stmts ℕ Callee} {ρ ρ′ : Env} {σ : Names Range} {v : State}
+    → Task len P t places last at end₁ f s net marks c ρ σ v → Stands g ρ′ σ → Task len P t places last at end₁ g s net marks c ρ′ σ v
+bound-task k h = record { shelf = k .shelf; here = k .here; roles = k .roles; scoped = k .scoped; suits = k .suits; stands = h; shows = k .shows; wires = k .wires }
+
+pub ready-of : {len : ℕ} {P : Program} {t places : List ℕ} {last at end₁ : ℕ} {f : Frame} {s : Counts} {net : List ℕ} {marks : List Bool} {c : Stmts ℕ Callee} {ρ : Env} {σ : Names Range} {v : State}
+    → Task len P t places last at end₁ f s net marks c ρ σ v → 5124 ≤ length net → Ready t places last at end₁ f s net marks
+ready-of {len} {P} {c = c} {ρ = ρ} {σ = σ} {v = v} k l = record { text = len; program = P; statements = c; env = ρ; names = σ; state = v; task = k; room = l }

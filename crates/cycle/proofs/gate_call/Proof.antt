@@ -25,8 +25,8 @@ same-length c = c .before .before .before .add .ensures .1
 returns : tie.Need-returns
 returns c = (
   λ len P left b ρ σ v v₁ task is e.
-  let g = gate-here _ _ task is in
-  rw (c .answer .ensures) (gate-answers _ left P ρ σ v v₁ _ _ _ g e (task .wires) (c .before .before .before .add .ensures .0 ρ σ (g .call .generics) (g .call .inputs) (g .call .outputs) v₁ (task .stands) (g .call .here) (g .fits) (task .shows))),
+      let g = gate-here _ _ task is in
+      rw (c .answer .ensures) (gate-answers _ left P ρ σ v v₁ _ _ _ g e (task .wires) (c .before .before .before .add .ensures .0 ρ σ (g .call .generics) (g .call .inputs) (g .call .outputs) v₁ (task .stands) (g .call .here) (g .fits) (task .shows))),
   c .before .before .before .add .ensures .1,
 )
 
