@@ -113,12 +113,12 @@ module _ {len : ℕ} {P : Program} {t places : List ℕ} {last at end₁ : ℕ} 
         ∙ then-end nin (deep nin P left) ρ σ _
 
 -- what `span` says, where the bounds are in range
-pub record Spanned (ρ : Env) (a b : Exp ℕ) (place : ℕ) (x : ℤ) (k m : ℕ) : Type 0 where
+pub record Spanned (ρ : Env) (a b : Exp ℕ) (at : ℕ) (x : ℤ) (k m : ℕ) : Type 0 where
   pub to : ℤ
   pub left : eval ρ a ≡ ok x
   pub right : eval ρ b ≡ ok to
   pub count : k ≡ rounds (to -ℤ x)
-  pub place : m ≡ place
+  pub place : m ≡ at
   -- how far indices go
   pub small : natAbs x ≤ 1000000
   pub few : k ≤ 2000001

@@ -65,8 +65,8 @@ refusal {o} net marks e a = subst (λ r. Answers o r net marks) e a
 pub answers-as : {o q : Outcome State} (r : Out) (net : List ℕ) (marks : List Bool) → o ≡ q → Answers q r net marks → Answers o r net marks
 answers-as r net marks e a = subst (λ o. Answers o r net marks) (sym e) a
 
-pub success : {o : Outcome State} {r : Out} {s : Counts} (net : List ℕ) (marks : List Bool) → r ≡ Done s → Answers o r net marks → Answers o (Done s) net marks
-success {o} net marks e a = subst (λ r. Answers o r net marks) e a
+pub success : (o : Outcome State) {r : Out} {s : Counts} (net : List ℕ) (marks : List Bool) → r ≡ Done s → Answers o r net marks → Answers o (Done s) net marks
+success o net marks e a = subst (λ r. Answers o r net marks) e a
 
 -- ---- a list of statements: the first, then the others
 

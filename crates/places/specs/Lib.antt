@@ -2,3 +2,4 @@ pub mod Held
 pub mod Bodies
 pub mod Numbered
 pub mod Starts
+pub mod Handed

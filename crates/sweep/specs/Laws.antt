@@ -9,6 +9,7 @@ pub mod Callees
 pub mod Bodies
 pub mod Declarations
 pub mod Blocks
+pub mod Lengths
 pub mod Gather
 pub mod Headings
 pub mod Known

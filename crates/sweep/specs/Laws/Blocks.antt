@@ -52,7 +52,7 @@ emit-block w y gw ei eo ev eb ex f (refuse n p) og oi oo ov ob R h = refl
 regroup : (a b c d e r : List ℕ) → (a ++ (b ++ (c ++ (d ++ e)))) ++ r ≡ a ++ (b ++ (c ++ (d ++ (e ++ r))))
 regroup a b c d e r = append-assoc a (b ++ (c ++ (d ++ e))) r ∙ ap (λ l. a ++ l) (append-assoc b (c ++ (d ++ e)) r ∙ ap (λ l. b ++ l) (append-assoc c (d ++ e) r ∙ ap (λ l. c ++ l) (append-assoc d e r)))
 
-five : (a b c d e : List ℕ) → length (a ++ (b ++ (c ++ (d ++ e)))) ≡ length a + (length b + (length c + (length d + length e)))
+pub five : (a b c d e : List ℕ) → length (a ++ (b ++ (c ++ (d ++ e)))) ≡ length a + (length b + (length c + (length d + length e)))
 five a b c d e = omega (arith, length-append a (b ++ (c ++ (d ++ e))), length-append b (c ++ (d ++ e)), length-append c (d ++ e), length-append d e)
 
 made-block : (n : Name) (gs : List Name) (ins outs vs : List (Decl ℕ)) (c : Stmts ℕ Callee) {m : ℕ} → m ≡ length (stmtsW slotW meantW c)
