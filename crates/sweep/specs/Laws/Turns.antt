@@ -84,13 +84,14 @@ onto-one a w (ok us) = ap ok (sym (append-snoc a w us))
 onto-one a w (refuse n p) = refl
 
 module _ (s H F N : List ℕ) (p : ℕ) (S : State) (w : ℕ) (ws : List ℕ) where
-  pub sweep-on : {v : ℕ} {T : State} → turn s H F N p S w ws ≡ ok (v, T) → sweep s H F N p S (w ∷ ws) ≡ after (sweep s H F N (p + 1) T ws) (λ us. v ∷ us)
-  unfolding sweep _>>=_
-  sweep-on e = rw e (after-bind _ _)
-
+  -- what a word is refused for comes before all that the words after it are
   pub sweep-no : {n q : ℕ} → turn s H F N p S w ws ≡ refuse n q → sweep s H F N p S (w ∷ ws) ≡ refuse n q
   unfolding sweep _>>=_
   sweep-no e = rw e
+
+  pub sweep-on : {v : ℕ} {T : State} → turn s H F N p S w ws ≡ ok (v, T) → sweep s H F N p S (w ∷ ws) ≡ after (sweep s H F N (p + 1) T ws) (λ us. v ∷ us)
+  unfolding sweep _>>=_
+  sweep-on e = rw e (after-bind _ _)
 
 -- ---- on the tape t, which from p on is as t₀ was
 
