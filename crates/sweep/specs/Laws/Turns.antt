@@ -22,9 +22,6 @@ pub says-as : {o u : Out (ℕ × State)} (t : Turn) (S : State) → o ≡ u → 
 says-as t S e h = subst (λ o. Says o t S) (sym e) h
 
 module _ (s H F N : List ℕ) (p : ℕ) (S : State) (w : ℕ) (ws : List ℕ) (k : ℕ) (e : k ≡ kindOf w) where
-  abbrev turned : Out (ℕ × State)
-  turned = turn s H F N p S w ws
-
   pub turn-name : k ≡ 1 → turn s H F N p S w ws ≡ after (nameStep s p (declaredAt S) (S .until) w) (λ k. (valued w k, S))
   unfolding turn pick
   turn-name h = rw (← e, h)
