@@ -14,7 +14,9 @@ use Rattle.rules.specs.Text.{pick, same, indexOf}
 use Rattle.rules.specs.Names.{Role, a-generic, a-wire, a-vector, an-index, isWire, isVector, isIndex}
 use Rattle.tape.specs.Layout.{kindOf, headIn, valueOf}
 use Rattle.sweep.specs.Spelling.{placeOf, lettersOf, roleIn, roleNumber}
-use Rattle.sweep.specs.Sweep.{standing, sortFits, shapeFits}
+use Rattle.sweep.specs.declared.Found.{Found}
+use Rattle.sweep.specs.declared.Found.the-variants.{At, Nothing}
+use Rattle.sweep.specs.Sweep.{standing, sortFits, shapeFits, Finds}
 
 -- ---- letters
 
@@ -79,11 +81,15 @@ next k e f = omega arith
 pub ends : {a b : ℕ} (k : ℕ) → a ≡ k + b → b ≡ 0 → k ≡ a
 ends k e f = omega arith
 
+-- what is found is one
+pub finds-one : (l : List ℕ) (vs : List (List ℕ)) (a b : Found) → Finds l vs a → Finds l vs b → a ≡ b
+finds-one l vs (At j) (At k) x y = ap At (x .0 ∙ sym (y .0))
+finds-one l vs (At j) Nothing x y = absurd (omega (arith, x .0, x .1))
+finds-one l vs Nothing (At k) x y = absurd (omega (arith, y .0, y .1))
+finds-one l vs Nothing Nothing x y = refl
+
 -- among the first n of the words ws, each spelled by f
 module _ (f : ℕ → List ℕ) (l : List ℕ) (ws : List ℕ) (n : ℕ) where
-  abbrev pub spelledBy : List (List ℕ)
-  spelledBy = map f (take n ws)
-
   pub spelled-length : length (map f (take n ws)) ≡ min n (length ws)
   spelled-length = length-map (take n ws) f ∙ length-take n ws
 

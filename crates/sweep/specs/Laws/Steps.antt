@@ -124,9 +124,6 @@ module _ (s scope : List ℕ) (n w : ℕ) where
 
 -- ---- a call's name, among the first n of the words that name blocks
 
-ten : length primitiveNames ≡ 10
-ten = refl
-
 module _ (s N : List ℕ) (n w k : ℕ) (p : k ≡ indexOf (lettersOf s w) primitiveNames) where
   pub callee-gate : k < 10 → (calleeIn s (take n N) w ≡ ok k) × (k < 128)
   unfolding calleeIn pick

@@ -22,9 +22,6 @@ pub says-as : {o u : Out (ℕ × State)} (t : Turn) (S : State) → o ≡ u → 
 says-as t S e h = subst (λ o. Says o t S) (sym e) h
 
 module _ (s H F N : List ℕ) (p : ℕ) (S : State) (w : ℕ) (ws : List ℕ) (k : ℕ) (e : k ≡ kindOf w) where
-  abbrev turned : Out (ℕ × State)
-  turned = turn s H F N p S w ws
-
   pub turn-name : k ≡ 1 → turn s H F N p S w ws ≡ after (nameStep s p (declaredAt S) (S .until) w) (λ k. (valued w k, S))
   unfolding turn pick
   turn-name h = rw (← e, h)
@@ -84,13 +81,14 @@ onto-one a w (ok us) = ap ok (sym (append-snoc a w us))
 onto-one a w (refuse n p) = refl
 
 module _ (s H F N : List ℕ) (p : ℕ) (S : State) (w : ℕ) (ws : List ℕ) where
-  pub sweep-on : {v : ℕ} {T : State} → turn s H F N p S w ws ≡ ok (v, T) → sweep s H F N p S (w ∷ ws) ≡ after (sweep s H F N (p + 1) T ws) (λ us. v ∷ us)
-  unfolding sweep _>>=_
-  sweep-on e = rw e (after-bind _ _)
-
+  -- what a word is refused for comes before all that the words after it are
   pub sweep-no : {n q : ℕ} → turn s H F N p S w ws ≡ refuse n q → sweep s H F N p S (w ∷ ws) ≡ refuse n q
   unfolding sweep _>>=_
   sweep-no e = rw e
+
+  pub sweep-on : {v : ℕ} {T : State} → turn s H F N p S w ws ≡ ok (v, T) → sweep s H F N p S (w ∷ ws) ≡ after (sweep s H F N (p + 1) T ws) (λ us. v ∷ us)
+  unfolding sweep _>>=_
+  sweep-on e = rw e (after-bind _ _)
 
 -- ---- on the tape t, which from p on is as t₀ was
 
