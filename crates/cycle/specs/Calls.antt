@@ -78,6 +78,17 @@ pub record LoopReady (i p : ℕ) (t places : List ℕ) (last at end₁ : ℕ) (f
   pub ready : Ready t places last at end₁ f s net marks
   pub is : IsLoop i p (ready .statements)
 
+module _ {len : ℕ} {P : Program} {t places : List ℕ} {last at end₁ : ℕ} {f : Frame} {s : Counts} {net : List ℕ} {marks : List Bool} {c : Stmts ℕ Callee} {ρ : Env} {σ : Names Range} {v : State}
+    (k : Task len P t places last at end₁ f s net marks c ρ σ v) (l : 5124 ≤ length net) where
+  abbrev the-ready : Ready t places last at end₁ f s net marks
+  the-ready = record { text = len; program = P; statements = c; env = ρ; names = σ; state = v; task = k; room = l }
+
+  pub call-ready : {m : Callee} {p : ℕ} → IsCall m p c → CallReady m p t places last at end₁ f s net marks
+  call-ready q = record { ready = the-ready; is = q }
+
+  pub loop-ready : {i p : ℕ} → IsLoop i p c → LoopReady i p t places last at end₁ f s net marks
+  loop-ready q = record { ready = the-ready; is = q }
+
 -- a call at p, of what is called m, in the use whose names are σ
 pub record CallHere (t : List ℕ) (at end₁ n : ℕ) (m : Callee) (p : ℕ) (c : Stmts ℕ Callee) : Type 0 where
   pub generics : List (Exp ℕ)
