@@ -22,7 +22,7 @@ fn put(text: &mut [u8], at: usize, b: u8) -> usize
 }
 
 // A piece of any length.
-fn copy(text: &mut [u8], at: usize, s: &[u8]) -> usize
+pub fn copy(text: &mut [u8], at: usize, s: &[u8]) -> usize
     requires { ⌜ at + length (now s) ≤ length (now text) ⌝ }
     ensures { λ r. ⌜ Put (now (text .entry)) at (now (s .entry)) r (now (text .exit)) ⌝ }
 {
