@@ -5,7 +5,7 @@ use mathlib.Core.Logic.{_↔_, _⊎_}
 use Prim.Native.Nat.{ℕ, _+_, _-_, _*_, _≤_, _<_}
 use native.Mathlib.Omega.{arith}
 use mathlib.Core.List.{List, _++_, map}
-use lib.ListN.{length, getD, take, drop}
+use lib.ListN.{length, getD, drop}
 use lib.Seq.{drop-at, length-take-le}
 use Rattle.rules.specs.Text.{zeros}
 use Rattle.rules.specs.Outcome.{Out, ok, refuse}
@@ -14,17 +14,17 @@ use Rattle.rules.specs.Netlist.{inputs, outputs, wires, gates, WellFormed, reco
 use Rattle.rules.specs.Meaning.{Signal, dark, Allows, NetAllows}
 use Rattle.rules.specs.Run.{toByte, fromByte, Inputs}
 use Rattle.rules.specs.Unfold.{Unfolded}
-use Rattle.rules.specs.Flatten.{Answer, program, flattened, answer, flatten}
+use Rattle.rules.specs.Flatten.{program, flattened, answer, flatten}
 use Rattle.rules.specs.Demands
-use Rattle.rules.specs.Laws.Within.{Within, fine, no}
+use Rattle.rules.specs.Laws.Within.{Within, no}
 use Rattle.rules.specs.Laws.Late.{flattened-within}
-use Rattle.rules.specs.Laws.Ways.{Way, way}
+use Rattle.rules.specs.Laws.Ways.{way}
 use Rattle.netlist.specs.Answers.{Told}
 use Rattle.run.specs.Ran.{Ran}
 use Rattle.run.specs.Follows.{Had, run-had, run-shows, shown-holds, the-outputs, one, no-other}
 use Rattle.flatten.specs.declared.Flattened.{Flattened}
-use Rattle.flatten.specs.Promise.{Flattens, seen}
-use Rattle.flatten.specs.Starts.{number-1, number-2, placeless as nowhere, whole}
+use Rattle.flatten.specs.Promise.{Flattens}
+use Rattle.flatten.specs.Starts.{Accepted, number-0, number-1, number-2, placeless as nowhere, whole}
 
 -- ---- over the definition
 
@@ -68,6 +68,10 @@ module _ {text work net : List ℕ} {r : Flattened} {table words : List ℕ} (f 
   -- every number is 0 or one of 1 to 18 of the table of answers
   pub numbers : r .number ≤ 18
   numbers = subst (λ a. a .number ≤ 18) (sym (f .answer)) (top-of text (length work) (length net))
+
+  -- 0 exactly where the lent buffers are long enough, the text is not too long, it is a program, and its unfolding is done
+  pub done-exactly : (r .number ≡ 0) ↔ Accepted text (length work) (length net)
+  done-exactly = subst (λ a. (a .number ≡ 0) ↔ Accepted text (length work) (length net)) (sym (f .answer)) (number-0 text (length work) (length net))
 
   -- 1 exactly where a lent buffer is shorter than its least size
   pub short-buffer : (r .number ≡ 1) ↔ ((length work < 16384) ⊎ (length net < 5124))

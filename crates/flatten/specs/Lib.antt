@@ -1,3 +1,6 @@
 pub mod Promise
 pub mod Starts
 pub mod Code
+pub mod Round
+pub mod Longer
+pub mod Table

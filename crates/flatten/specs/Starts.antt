@@ -6,21 +6,21 @@ use native.Mathlib.Omega.{arith}
 use native.Mathlib.Decide.{decLt}
 use mathlib.Core.Bool.{Bool, true, false, _&&_}
 use mathlib.Core.List.{List, _∷_, _++_}
-use lib.ListN.{length, take}
+use lib.ListN.{length}
 use lib.Seq.{take-at}
 use lib.Dec.{leb}
 use borrow.Author.Tests.{le-leb, lt-leb}
 use Rattle.rules.specs.declared.Gate.{Gate}
-use Rattle.rules.specs.Text.{zeros}
 use Rattle.rules.specs.Outcome.{Out, ok, refuse, _>>=_, need}
 use Rattle.rules.specs.Syntax.{Program}
 use Rattle.rules.specs.Netlist.{gates, gateWords, netWords, records}
 use Rattle.rules.specs.Unfold.{Unfolded, unfoldMain}
 use Rattle.rules.specs.Flatten.{program, flattened, answer, flatten}
-use Rattle.rules.specs.Laws.Outcomes.{inv, ok-inj}
+use Rattle.rules.specs.Laws.Outcomes.{inv, ok-inj, bind-ok}
 use Rattle.rules.specs.Laws.Nets.{words-length}
 use Rattle.rules.specs.Laws.Within.{Within, no as refused, wider, within-next}
 use Rattle.rules.specs.Laws.Late.{program-within, text-within}
+use Rattle.rules.specs.Laws.Ways.{way}
 
 -- what a text gives, apart from all lengths
 unfoldable pub given : List ℕ → Out Unfolded
@@ -78,6 +78,24 @@ nowhere : (net : ℕ) {o : Out Unfolded} {n : ℕ} → o ≡ refuse n 0 → answ
 unfolding answer
 nowhere net e = rw e refl
 
+-- what a text and lent buffers of these lengths must be, to be flattened
+pub record Accepted (text : List ℕ) (work net : ℕ) : Type 0 where
+  pub work-room : 16384 ≤ work
+  pub net-room : 5124 ≤ net
+  pub short : length text ≤ 16384
+  pub P : Program
+  pub reads : program text ≡ ok P
+  pub u : Unfolded
+  pub unfolds : unfoldMain P ≡ ok u
+
+answer-0 : (net : ℕ) {o : Out Unfolded} {u : Unfolded} → o ≡ ok u → answer net o .number ≡ 0
+unfolding answer
+answer-0 net e = rw e refl
+
+accepted-0 : (text : List ℕ) (work net : ℕ) → Accepted text work net → flatten text work net .number ≡ 0
+unfolding flatten given
+accepted-0 text work net a = answer-0 net (starts text work net (a .work-room) (a .net-room) (a .short) ∙ bind-ok unfoldMain (a .reads) (a .unfolds))
+
 module _ (text : List ℕ) (work net : ℕ) where
   short-1 : Short work net → flatten text work net .number ≡ 1
   unfolding flatten
@@ -110,6 +128,21 @@ module _ (text : List ℕ) (work net : ℕ) where
       go e (no a) (yes b) c = absurd (omega (arith, short-1 (inr b)))
       go e (no a) (no b) (yes c) = (omega arith, omega arith, c)
       go e (no a) (no b) (no c) = absurd (other (omega arith) (omega arith) (omega arith) .1 e)
+
+  -- 0 exactly where neither is, the text is a program and its unfolding is done
+  pub number-0 : (flatten text work net .number ≡ 0) ↔ Accepted text work net
+  number-0 = ((λ e. go e (decLt work 16384) (decLt net 5124) (decLt 16384 (length text))), back)
+    where
+      go : flatten text work net .number ≡ 0 → Dec (work < 16384) → Dec (net < 5124) → Dec (16384 < length text) → Accepted text work net
+      go e (yes a) b c = absurd (omega (arith, short-1 (inl a)))
+      go e (no a) (yes b) c = absurd (omega (arith, short-1 (inr b)))
+      go e (no a) (no b) (yes c) = absurd (omega (arith, long-2 (omega arith) (omega arith) c))
+      go e (no a) (no b) (no c) =
+          let w = way text work net e in
+          record { work-room = omega arith; net-room = omega arith; short = omega arith; P = w .P; reads = w .reads; u = w .u; unfolds = w .unfolds }
+
+      back : Accepted text work net → flatten text work net .number ≡ 0
+      back a = accepted-0 text work net a
 
   -- 0, 1 and 2 have no place
   pub placeless : flatten text work net .number ≤ 2 → flatten text work net .place ≡ 0
