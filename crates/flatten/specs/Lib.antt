@@ -1,2 +1,7 @@
 pub mod Promise
 pub mod Ways
+pub mod Starts
+pub mod Code
+pub mod Round
+pub mod Longer
+pub mod Table
