@@ -14,6 +14,7 @@ use Rattle.rules.specs.Values.{Env, generics}
 use Rattle.rules.specs.Frames.{Frame as Names}
 use Rattle.rules.specs.Unfold.{Range, State, unfolds, tick, emit, enter, deep}
 use Rattle.rules.specs.Laws.Outcomes.{ok-inj, no-ok, inv}
+use Rattle.rules.specs.Laws.Order.{call-late, loop-late, block-deep}
 use Rattle.rules.specs.Laws.Scoped.{portsOf, namesOf, ArgsOk, Wanted, by-gate, by-block, StmtsOk}
 use Rattle.rules.specs.Laws.Suits.{Suits, Sized, resolves-sized, ends-fit, entered-suits}
 use Rattle.rules.specs.Laws.Late.{nth-both}
@@ -35,7 +36,7 @@ use Rattle.unfold.specs.Adding.{added, Fits, WrittenGate}
 use Rattle.unfold.specs.Statements.{HereStmts, Named, call-here}
 use Rattle.unfold.specs.Onward.{alone, IsCall, IsLoop, Heads}
 use Rattle.unfold.specs.Scope.{named-of, many-of, named-both}
-use Rattle.unfold.specs.Steps.{Opened, opened-parts, Added, added-parts, call-late, loop-late, block-deep, block-opened, block-refused, gate-added, gate-refused}
+use Rattle.unfold.specs.Steps.{Opened, opened-parts, Added, added-parts, block-opened, block-refused, gate-added, gate-refused}
 use Rattle.unfold.specs.Shelf.{Shelf}
 use Rattle.cycle.specs.declared.Out.{Out}
 use Rattle.cycle.specs.declared.Out.the-variants.{Done, No}

@@ -12,6 +12,7 @@ use Rattle.rules.specs.Syntax.{Exp, Stmts, end, loop, Callee, Program}
 use Rattle.rules.specs.Values.{Env, generics, bound, eval, rounds}
 use Rattle.rules.specs.Frames.{Frame as Names}
 use Rattle.rules.specs.Unfold.{Range, State, unfolds, tick, turns, deep}
+use Rattle.rules.specs.Laws.Order.{loop-rounds}
 use Rattle.rules.specs.Laws.Scoped.{portsOf, StmtsOk}
 use Rattle.tape.specs.Layout.{valueOf}
 use Rattle.tape.specs.Encoding.{expW}
@@ -27,7 +28,7 @@ use Rattle.unfold.specs.Header.{bodyW}
 use Rattle.unfold.specs.Loops.{bodyAt, loop-ends, loop-many, loop-bounds, loop-body}
 use Rattle.unfold.specs.Onward.{alone, IsLoop}
 use Rattle.unfold.specs.Statements.{HereStmts}
-use Rattle.unfold.specs.Steps.{loop-rounds, loop-refused}
+use Rattle.unfold.specs.Steps.{loop-refused}
 use Rattle.cycle.specs.declared.Out.{Out}
 use Rattle.cycle.specs.declared.Out.the-variants.{Done, No}
 use Rattle.cycle.specs.Task.{Task, Ready, Answers, along, refused, went, then-end}

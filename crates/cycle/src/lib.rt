@@ -211,26 +211,18 @@ fn called(
     }
     let opened = unfold::open(tape, f, s.wires, at + 1, end, place_of(places, block), last);
     let entry = opened.entry;
-    let frame = opened.frame;
+    let g = opened.frame;
     match entry {
         Entry::Wrong(n) => Out::No(n, place),
-        Entry::Body(first, after, wires) => statements(
-            tape,
-            places,
-            last,
-            net,
-            marks,
-            frame,
-            Counts {
+        Entry::Body(from, to, wires) => {
+            let t = Counts {
                 wires,
                 steps: s.steps,
                 gates: s.gates,
-            },
-            nin,
-            first,
-            after,
-            left - 1,
-        ),
+            };
+            let below = left - 1;
+            statements(tape, places, last, net, marks, g, t, nin, from, to, below)
+        }
     }
 }
 
@@ -325,8 +317,8 @@ fn turns(
             Out::No(n, p) => {
                 return Out::No(n, p);
             }
-            Out::Done(t) => {
-                counts = t;
+            Out::Done(u) => {
+                counts = u;
             }
         }
         v = values::next_index(v);

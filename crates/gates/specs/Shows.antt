@@ -8,13 +8,14 @@ use mathlib.Core.List.{List, [], _∷_, _++_, map, append-assoc}
 use lib.ListN.{length, getD, set, take, length-append, length-set}
 use lib.Seq.{getD-set-same, getD-set-other, getD-take}
 use lib.Dec.{ltb, eqb}
-use borrow.Author.Tests.{lt-ltb, le-ltb, eq-eqb, ne-eqb}
+use borrow.Author.Tests.{lt-ltb, le-ltb, eq-eqb, ne-eqb, ltb-true, ltb-false}
 use Rattle.rules.specs.Text.{pick}
 use Rattle.rules.specs.declared.Gate.{Gate}
 use Rattle.rules.specs.Outcome.{Out, ok, refuse, _>>=_, need}
 use Rattle.rules.specs.Primitives.{inputsOf, primitive}
 use Rattle.rules.specs.Netlist.{unused, gateWords}
 use Rattle.rules.specs.Unfold.{State, tick, emit, driven, gateOn}
+use Rattle.rules.specs.Laws.Order.{step-late}
 use Rattle.frames.specs.Laid.{laid, column, laid-append, laid-length}
 use Rattle.gates.specs.declared.Counts.{Counts}
 use Rattle.gates.specs.declared.Step.{Step}
@@ -56,8 +57,8 @@ tick-on {v} {s} h l =
     )
 
 pub tick-off : {v : State} {s : Counts} {net : List ℕ} {marks : List Bool} → Shows v s net marks → 20000 ≤ s .steps → Gives (tick v) (Wrong 15) net marks
-unfolding Gives tick need _>>=_
-tick-off {v} h l = rw (le-ltb (v .steps) 20000 (omega (arith, h .steps)))
+unfolding Gives
+tick-off {v} h l = step-late v (omega (arith, h .steps))
 
 -- ---- gates
 
@@ -117,21 +118,65 @@ words-on {n} gs g net c e =
     subst (λ k. laid net (4 + 5 * n) (wordsOf g) ≡ image k (gs ++ (g ∷ []))) (sym l)
     (ap (λ k. laid net (4 + 5 * k) (wordsOf g)) c ∙ ap (λ t. laid t (4 + 5 * length gs) (wordsOf g)) e ∙ image-more (length net) gs g)
 
-module _ {v : State} {s : Counts} {net : List ℕ} {marks : List Bool} (h : Shows v s net marks) (nin : ℕ) (g : Gate) where
-  pub emit-many : 1024 ≤ s .gates → Gives (emit nin g v) (Wrong 17) net marks
-  unfolding Gives emit need _>>=_
-  emit-many l = rw (le-ltb (length (v .gates)) 1024 (omega (arith, h .gates)))
+-- 17 where there is no room for gate n; 18 where a wire is one of main's inputs or driven; or else 0
+unfoldable pub fullOf : ℕ → ℕ
+fullOf n = pick (ltb n 1024) 0 17
 
+unfoldable pub takenOf : ℕ → ℕ → Bool → ℕ
+takenOf wire nin d = pick (ltb wire nin || d) 18 0
+
+-- the first of two refusals
+unfoldable pub firstOf : ℕ → ℕ → ℕ
+firstOf zero b = b
+firstOf (suc a) b = suc a
+
+pub first-some : (a b : ℕ) → 0 < a → firstOf a b ≡ a
+unfolding firstOf
+first-some zero b l = absurd (omega arith)
+first-some (suc a) b l = refl
+
+pub first-none : (a b : ℕ) → a ≤ 0 → firstOf a b ≡ b
+unfolding firstOf
+first-none zero b l = refl
+first-none (suc a) b l = absurd (omega arith)
+
+stops : (a b : Bool) (t : State) {k : ℕ} → k ≡ firstOf (pick a 0 17) (pick b 18 0) → 0 < k → (need a 17 >>= λ _. need (not b) 18 >>= λ _. ok t) ≡ refuse k 0
+unfolding firstOf pick need _>>=_
+stops true true t e l = rw e
+stops true false t e l = absurd (omega (arith, e))
+stops false b t e l = rw e
+
+frees : (a b : Bool) → firstOf (pick a 0 17) (pick b 18 0) ≡ 0 → (a ≡ true) × (b ≡ false)
+unfolding firstOf pick
+frees true true e = absurd (omega (arith, e))
+frees true false e = (refl, refl)
+frees false b e = absurd (omega (arith, e))
+
+neither : (a b : Bool) → (a || b) ≡ false → (a ≡ false) × (b ≡ false)
+neither true b e = let z : _≡_ {A = ℕ} 0 1 = cc in absurd (omega arith)
+neither false b e = (refl, e)
+
+-- nothing bars gate n with this output
+pub record Free (n wire nin : ℕ) (d : Bool) : Type 0 where
+  pub few : n < 1024
+  pub past : nin ≤ wire
+  pub none : d ≡ false
+
+pub free : {n wire nin a b k : ℕ} {d : Bool} → a ≡ fullOf n → b ≡ takenOf wire nin d → k ≡ firstOf a b → k ≤ 0 → Free n wire nin d
+unfolding fullOf takenOf
+free {n} {wire} {nin} {k = k} {d = d} x y z l =
+    let o : k ≡ 0 = omega arith in
+    let (a, b) = frees (ltb n 1024) (ltb wire nin || d) (rw (x, y) at (sym z ∙ o)) in
+    let (i, f) = neither (ltb wire nin) d b in
+    record { few = ltb-true n 1024 a; past = ltb-false wire nin i; none = f }
+
+module _ {v : State} {s : Counts} {net : List ℕ} {marks : List Bool} (h : Shows v s net marks) (nin : ℕ) (g : Gate) where
   few : s .gates < 1024 → length (v .gates) < 1024
   few l = omega (arith, h .gates)
 
-  pub emit-input : s .gates < 1024 → g .out < nin → Gives (emit nin g v) (Wrong 18) net marks
-  unfolding Gives emit need _>>=_
-  emit-input l i = rw (lt-ltb (length (v .gates)) 1024 (few l), lt-ltb (g .out) nin i)
-
-  pub emit-twice : s .gates < 1024 → g .out < 1536 → nin ≤ g .out → getD marks (g .out) false ≡ true → Gives (emit nin g v) (Wrong 18) net marks
-  unfolding Gives emit need _>>=_
-  emit-twice l o i d = rw (lt-ltb (length (v .gates)) 1024 (few l), le-ltb (g .out) nin i, ← (h .marks (g .out) o), d)
+  pub emit-stop : g .out < 1536 → {k : ℕ} → k ≡ firstOf (fullOf (s .gates)) (takenOf (g .out) nin (getD marks (g .out) false)) → 0 < k → Gives (emit nin g v) (Wrong k) net marks
+  unfolding Gives emit fullOf takenOf
+  emit-stop o {k} e l = stops (ltb (length (v .gates)) 1024) (ltb (g .out) nin || driven (v .gates) (g .out)) _ (rw (h .gates, h .marks (g .out) o) at e) l
 
   pub emit-on : {net′ : List ℕ} {marks′ : List Bool} → s .gates < 1024 → g .out < 1536 → nin ≤ g .out → getD marks (g .out) false ≡ false
       → net′ ≡ laid net (4 + 5 * s .gates) (wordsOf g) → marks′ ≡ set marks (g .out) true

@@ -7,7 +7,7 @@ ghost use lib.ListN.{length, getD, set};
 ghost use Rattle.rules.specs.Primitives.{inputsOf};
 ghost use Rattle.rules.specs.Unfold.{State, tick, emit, gateOn};
 ghost use Rattle.frames.specs.Laid.{laid};
-ghost use Rattle.gates.specs.Shows.{Shows, Gives, Held, wordsOf, slotOf, Ends};
+ghost use Rattle.gates.specs.Shows.{Shows, Gives, Held, wordsOf, fullOf, takenOf, firstOf, slotOf, Ends};
 use rules::Gate;
 
 // The next wire's number, the steps so far, and how many gates there are.
@@ -76,6 +76,39 @@ fn wide(x: u16) -> usize
     x as usize
 }
 
+// 17 where there is no room for gate n, or else 0.
+fn full(n: usize) -> usize
+    ensures { λ r. ⌜ r ≡ fullOf n ⌝ }
+{
+    if n < GATES {
+        return 0;
+    }
+    17
+}
+
+// 18 where a wire is one of main's inputs or driven, or else 0.
+fn taken(wire: usize, nin: usize, driven: bool) -> usize
+    ensures { λ r. ⌜ r ≡ takenOf wire nin driven ⌝ }
+{
+    if wire < nin {
+        return 18;
+    }
+    if driven {
+        return 18;
+    }
+    0
+}
+
+// The first of two refusals, where 0 is none.
+fn first(a: usize, b: usize) -> usize
+    ensures { λ r. ⌜ r ≡ firstOf a b ⌝ }
+{
+    if a > 0 {
+        return a;
+    }
+    b
+}
+
 // One gate more, where main's inputs are the wires below nin: 17, then 18.
 pub fn emit(net: &mut [u16], marks: &mut [bool; 1536], s: Counts, nin: usize, g: Gate) -> Step
     requires { ⌜ (5124 ≤ length (now net)) × (g .out < 1536) ⌝ }
@@ -83,15 +116,13 @@ pub fn emit(net: &mut [u16], marks: &mut [bool; 1536], s: Counts, nin: usize, g:
     ensures { λ r. ⌜ length (now (net .exit)) ≡ length (now (net .entry)) ⌝ }
 {
     let n = s.gates;
-    if n >= GATES {
-        return Step::Wrong(17);
-    }
     let out = wide(g.out);
-    if out < nin {
-        return Step::Wrong(18);
-    }
-    if is_driven(marks, out) {
-        return Step::Wrong(18);
+    let driven = is_driven(marks, out);
+    let many = full(n);
+    let twice = taken(out, nin, driven);
+    let no = first(many, twice);
+    if no > 0 {
+        return Step::Wrong(no);
     }
     drive(marks, out);
     write(net, n, g);

@@ -15,6 +15,8 @@ use Rattle.rules.specs.Run.{Known, toByte, fromByte, Inputs, Shows}
 use Rattle.rules.specs.Flat.{flatText}
 use Rattle.rules.specs.Flatten.{program, flatten}
 use Rattle.rules.specs.Laws.Outcomes.{ok-inj}
+-- 01's order of refusals in the unfolding
+pub use Rattle.rules.specs.Laws.Order
 use Rattle.rules.specs.Laws.Ways.{Way, way}
 use Rattle.rules.specs.Laws.Cut.{alike}
 use Rattle.rules.specs.Laws.Keep.{unfolded-well}

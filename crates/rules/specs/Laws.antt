@@ -1,4 +1,5 @@
 pub mod Outcomes
+pub mod Order
 pub mod Carried
 pub mod Natural
 pub mod Good

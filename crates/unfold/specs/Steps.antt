@@ -51,16 +51,6 @@ added-parts nin k ρ σ gs args s e =
     record { values = vs; wires = rs; evals = ev; resolves = er; ends = en; emit = e₃ }
 
 module _ (nin : ℕ) (deeper : ℕ → Out Act) (p : ℕ) (gs : List (Exp ℕ)) (ins outs : List (Arg ℕ)) (rest : Stmts ℕ Callee) (ρ : Env) (σ : Names Range) (s : State) where
-  -- 15
-  pub call-late : (c : Callee) {k q : ℕ} → tick s ≡ refuse k q → unfolds nin deeper (call p c gs ins outs rest) ρ σ s ≡ refuse k p
-  unfolding unfolds at _>>=_
-  call-late c e = rw e
-
-  -- 14
-  pub block-deep : (b : ℕ) {s₁ : State} {k q : ℕ} → tick s ≡ ok s₁ → deeper b ≡ refuse k q → unfolds nin deeper (call p (block b) gs ins outs rest) ρ σ s ≡ refuse k p
-  unfolding unfolds act at _>>=_
-  block-deep b e f = rw (e, f)
-
   module _ (b : ℕ) (within : ℕ → Out Act) (B : Block ℕ Callee) {s₁ : State} (t : tick s ≡ ok s₁) (d : deeper b ≡ ok (enter nin within B)) where
     parts : unfolds nin deeper (call p (block b) gs ins outs rest) ρ σ s
         ≡ (at p (evals ρ gs) >>= λ vs. at p (resolves Wires ρ σ (ins ++ outs)) >>= λ rs. enter nin within B p vs rs s₁ >>= λ s₂. unfolds nin deeper rest ρ σ s₂)
@@ -77,31 +67,6 @@ module _ (nin : ℕ) (deeper : ℕ → Out Act) (p : ℕ) (gs : List (Exp ℕ)) 
   pub gate-added : (k : ℕ) {s₁ s₂ : State} → tick s ≡ ok s₁ → added nin k ρ σ gs (ins ++ outs) s₁ ≡ ok s₂ → unfolds nin deeper (call p (gate k) gs ins outs rest) ρ σ s ≡ unfolds nin deeper rest ρ σ s₂
   unfolding unfolds act addGate at _>>=_
   gate-added k {s₁} t e = let o = added-parts nin k ρ σ gs (ins ++ outs) s₁ e in rw (t, o .evals, o .resolves, o .ends, o .emit)
-
-module _ (nin : ℕ) (deeper : ℕ → Out Act) (p i : ℕ) (a b : Exp ℕ) (body rest : Stmts ℕ Callee) (ρ : Env) (σ : Names Range) (s : State) where
-  pub loop-late : {k q : ℕ} → tick s ≡ refuse k q → unfolds nin deeper (loop p i a b body rest) ρ σ s ≡ refuse k p
-  unfolding unfolds at _>>=_
-  loop-late e = rw e
-
-  -- bounds are worked out once
-  pub loop-rounds : {s₁ : State} {x y : ℤ} → tick s ≡ ok s₁ → eval ρ a ≡ ok x → eval ρ b ≡ ok y
-      → unfolds nin deeper (loop p i a b body rest) ρ σ s ≡ (turns p (λ v t. unfolds nin deeper body (bound ρ i v) σ t) x (rounds (y -ℤ x)) s₁ >>= λ s₂. unfolds nin deeper rest ρ σ s₂)
-  unfolding unfolds at _>>=_
-  loop-rounds t e f = rw (t, e, f)
-
--- a round: 15, then the body
-module _ (p : ℕ) (round : ℤ → State → Out State) (v : ℤ) (n : ℕ) (s : State) where
-  pub round-late : {k q : ℕ} → tick s ≡ refuse k q → turns p round v (suc n) s ≡ refuse k p
-  unfolding turns at _>>=_
-  round-late e = rw e
-
-  pub round-stop : {s₁ : State} {k q : ℕ} → tick s ≡ ok s₁ → round v s₁ ≡ refuse k q → turns p round v (suc n) s ≡ refuse k q
-  unfolding turns at _>>=_
-  round-stop t e = rw (t, e)
-
-  pub round-on : {s₁ s₂ : State} → tick s ≡ ok s₁ → round v s₁ ≡ ok s₂ → turns p round v (suc n) s ≡ turns p round (sucℤ v) n s₂
-  unfolding turns at _>>=_
-  round-on t e = rw (t, e)
 
 -- ---- refusals: the same number, at the statement's place
 

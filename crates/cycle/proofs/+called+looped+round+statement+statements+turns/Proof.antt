@@ -149,8 +149,8 @@ called-enum-known-entry t c = search needs
 called-enum-known-entry-2 : (t : ℕ) → called-lts.Need-enum-known-entry-2 (called-claims t) (called-at t) called.Post
 called-enum-known-entry-2 t c = search needs
 
-called-sub-statements : (t : ℕ) → called-lts.Need-sub-statements (called-claims t) (called-at t) called.Post
-called-sub-statements t c = search needs
+called-sub-below : (t : ℕ) → called-lts.Need-sub-below (called-claims t) (called-at t) called.Post
+called-sub-below t c = search needs
 
 called-statements-requires : (t : ℕ) → called-lts.Need-statements-requires (called-claims t) (called-at t) called.Post
 called-statements-requires t c κs =
@@ -503,7 +503,7 @@ pub +called+looped+round+statement+statements+turns-spec : {M : Type 1} → stat
     (called-open-requires t)
     (called-enum-known-entry t)
     (called-enum-known-entry-2 t)
-    (called-sub-statements t)
+    (called-sub-below t)
     (called-statements-requires t)
     (called-returns-2 t)
     (called-same-length t)
