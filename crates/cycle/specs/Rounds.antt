@@ -13,6 +13,7 @@ use Rattle.rules.specs.Values.{Env, generics, bound, eval, rounds}
 use Rattle.rules.specs.Frames.{Frame as Names}
 use Rattle.rules.specs.Unfold.{Range, State, unfolds, tick, turns, deep}
 use Rattle.rules.specs.Laws.Order.{loop-rounds}
+use Rattle.rules.specs.Laws.Outcomes.{refused, went, along}
 use Rattle.rules.specs.Laws.Scoped.{portsOf, StmtsOk}
 use Rattle.tape.specs.Layout.{valueOf}
 use Rattle.tape.specs.Encoding.{expW}
@@ -31,7 +32,7 @@ use Rattle.unfold.specs.Statements.{HereStmts}
 use Rattle.unfold.specs.Steps.{loop-refused}
 use Rattle.cycle.specs.declared.Out.{Out}
 use Rattle.cycle.specs.declared.Out.the-variants.{Done, No}
-use Rattle.cycle.specs.Task.{Task, Ready, Answers, along, refused, went, then-end}
+use Rattle.cycle.specs.Task.{Task, Ready, Answers, then-end}
 
 -- a loop over index i at p
 pub record LoopHere (len : ℕ) (P : Program) (t : List ℕ) (at end₁ : ℕ) (E : List Role) (i p : ℕ) (c : Stmts ℕ Callee) : Type 0 where

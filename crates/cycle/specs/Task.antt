@@ -11,7 +11,7 @@ use Rattle.rules.specs.Syntax.{Exp, Arg, Stmts, end, call, loop, Callee, gate, 
 use Rattle.rules.specs.Values.{Env}
 use Rattle.rules.specs.Frames.{Frame as Names}
 use Rattle.rules.specs.Unfold.{Range, State, Act, unfolds, tick, deep}
-use Rattle.rules.specs.Laws.Outcomes.{ok-inj, inv}
+use Rattle.rules.specs.Laws.Outcomes.{ok-inj, inv, refused, went, along}
 use Rattle.rules.specs.Laws.Scoped.{portsOf, StmtsOk}
 use Rattle.rules.specs.Laws.Suits.{Suits}
 use Rattle.tape.specs.Encoding.{stmtsW}
@@ -69,20 +69,6 @@ pub success : (o : Outcome State) {r : Out} {s : Counts} (net : List ℕ) (marks
 success o net marks e a = subst (λ r. Answers o r net marks) e a
 
 -- ---- a list of statements: the first, then the others
-
--- what is done after a sequence is done after its last part
-pub along : {A B C : Type 0} (o : Outcome A) (f : A → Outcome B) (K : B → Outcome C) (g : A → Outcome C) → ((a : A) → (f a >>= K) ≡ g a) → ((o >>= f) >>= K) ≡ (o >>= g)
-unfolding _>>=_
-along (ok a) f K g h = h a
-along (refuse n p) f K g h = refl
-
-pub refused : {A B : Type 0} {o : Outcome A} (K : A → Outcome B) {n p : ℕ} → o ≡ refuse n p → (o >>= K) ≡ refuse n p
-unfolding _>>=_
-refused K e = rw e
-
-pub went : {A B : Type 0} {o : Outcome A} (K : A → Outcome B) {a : A} → o ≡ ok a → (o >>= K) ≡ K a
-unfolding _>>=_
-went K e = rw e
 
 module _ (nin : ℕ) (deeper : ℕ → Outcome Act) (ρ : Env) (σ : Names Range) where
   pub then-end : (o : Outcome State) → (o >>= λ s. unfolds nin deeper end ρ σ s) ≡ o

@@ -11,15 +11,9 @@ use Rattle.rules.specs.Grammar.{grammar}
 use Rattle.rules.specs.Laws.Outcomes.{inv, need-yes}
 use Rattle.rules.specs.Laws.Numbered.{spelled-text}
 use Rattle.tape.specs.Encoding.{tapeOf}
-use Rattle.tape.specs.Lies.{Lies}
+use Rattle.tape.specs.Lies.{Lies, lies-front}
 use Rattle.sweep.specs.Resolves.{Holds}
 use Rattle.grammar.specs.Promise.{readText, Stands}
-
-front : (a b : List ℕ) → Lies (a ++ b) 0 a
-front a b = record {
-  fits = omega (arith, length-append a b);
-  word = λ i h. let e : 0 + i ≡ i = omega arith in ap (λ k. getD (a ++ b) k 0) e ∙ List·getD-append a b 0 i h;
-}
 
 -- a text that is read is not too long, and the grammar reads it
 read-so : {X : Type 0} (text : List ℕ) (table : ℕ) {Bs : Spelled} → readText text table ≡ ok Bs → (length text ≤ 16384 → grammar text ≡ ok Bs → X) → X
@@ -31,7 +25,7 @@ handed text before after n m c S =
     read-so text (length before) (S .reads) λ few e.
     let spelt = spelled-text text (S .program) e in
     record {
-      lies = subst (λ t. Lies t 0 (tapeOf (S .program))) (sym (S .table)) (front (tapeOf (S .program)) (drop m before));
+      lies = subst (λ t. Lies t 0 (tapeOf (S .program))) (sym (S .table)) (lies-front (tapeOf (S .program)) (drop m before));
       size = S .words;
       short = omega (arith, S .half);
       spelt = spelt .0;

@@ -15,16 +15,10 @@ use Rattle.rules.specs.Laws.Numbered.{numbered-text}
 use Rattle.rules.specs.Laws.Scoped.{names-scoped}
 use Rattle.tape.specs.Resolved.{resolvedTape}
 use Rattle.tape.specs.Written.{put-is}
-use Rattle.tape.specs.Lies.{Lies}
+use Rattle.tape.specs.Lies.{Lies, lies-front}
 use Rattle.sweep.specs.Resolves.{Holds, Right}
 use Rattle.sweep.specs.Laws.Lengths.{tape-length}
 use Rattle.places.specs.Held.{Held}
-
-front : (a b : List ℕ) → Lies (a ++ b) 0 a
-front a b = record {
-  fits = omega (arith, length-append a b);
-  word = λ i h. let e : 0 + i ≡ i = omega arith in ap (λ k. getD (a ++ b) k 0) e ∙ List·getD-append a b 0 i h;
-}
 
 -- the text is this program
 program-is : (s : List ℕ) (Bs : Spelled) (P : Program) → grammar s ≡ ok Bs → names (length s) Bs ≡ ok P → program s ≡ ok P
@@ -51,7 +45,7 @@ module _ {s t u : List ℕ} {end m : ℕ} {Bs : Spelled} (h : Holds s t end Bs) 
   held e =
       let n = numbered-text s (r .program) (program-is s Bs (r .program) e (r .named)) in
       record {
-        lies = subst (λ u. Lies u 0 (resolvedTape (r .program))) (sym table) (front (resolvedTape (r .program)) (drop end t));
+        lies = subst (λ u. Lies u 0 (resolvedTape (r .program))) (sym table) (lies-front (resolvedTape (r .program)) (drop end t));
         size = size;
         short = h .short;
         numbered = n .0;

@@ -10,7 +10,7 @@ use Rattle.rules.specs.Values.{Env, generics}
 use Rattle.rules.specs.Frames.{Frame as Names, blanks}
 use Rattle.rules.specs.Netlist.{netWords}
 use Rattle.rules.specs.Unfold.{Range, Wires, State, declare, unfolds, deep, Unfolded, unfoldMain}
-use Rattle.rules.specs.Laws.Outcomes.{ok-inj, inv, inv-at}
+use Rattle.rules.specs.Laws.Outcomes.{ok-inj, inv, inv-at, refused, went}
 use Rattle.rules.specs.Laws.Scoped.{namesOf}
 use Rattle.rules.specs.Laws.Suits.{Suits, main-suits}
 use Rattle.frames.specs.Fresh.{some-state}
@@ -47,14 +47,6 @@ unfolding _>>=_
 regroup (ok a) J K L h = h a
 regroup (refuse n p) J K L h = refl
 
-refused : {A B : Type 0} (o : Out A) (K : A → Out B) {n p : ℕ} → o ≡ refuse n p → (o >>= K) ≡ refuse n p
-unfolding _>>=_
-refused o K e = rw e
-
-went : {A B : Type 0} (K : A → Out B) (a : A) → (ok a >>= K) ≡ K a
-unfolding _>>=_
-went K a = refl
-
 module _ (P : Program) (M : Block ℕ Callee) (is : nth 9 (P .blocks) (P .main) ≡ ok M) where
   pub main-unfolds : unfoldMain P ≡ (begun M >>= finished P M)
   unfolding unfoldMain _>>=_
@@ -62,7 +54,7 @@ module _ (P : Program) (M : Block ℕ Callee) (is : nth 9 (P .blocks) (P .main) 
       (regroup (declare (generics []) (M .inputs) (blanks Wires (M .generics)) (some-state 0)) _ _ (finished P M) λ i.
       regroup (declare (generics []) (M .outputs) (i .0) (i .1)) _ _ (finished P M) λ o.
       regroup (declare (generics []) (M .locals) (o .0) (o .1)) _ _ (finished P M) λ l.
-      sym (went (finished P M) (i .1 .next, (o .1 .next - i .1 .next, l))))
+      sym (went (finished P M) refl))
 
   pub main-refused : {n p : ℕ} → begun M ≡ refuse n p → unfoldMain P ≡ refuse n p
   unfolding _>>=_
@@ -119,12 +111,12 @@ ported-many M {nin} {σ} {s} e =
 
 module _ (M : Block ℕ Callee) where
   pub inputs-refused : {n p : ℕ} → declare (generics []) (M .inputs) (blanks Wires (M .generics)) (some-state 0) ≡ refuse n p → ported M ≡ refuse n p
-  inputs-refused e = refused _ _ e
+  inputs-refused e = refused _ e
 
   module _ {σ : Names Range} {s : State} (e : declare (generics []) (M .inputs) (blanks Wires (M .generics)) (some-state 0) ≡ ok (σ, s)) where
     pub outputs-refused : {n p : ℕ} → declare (generics []) (M .outputs) σ s ≡ refuse n p → ported M ≡ refuse n p
     unfolding _>>=_
-    outputs-refused f = rw e (refused _ _ f)
+    outputs-refused f = rw e (refused _ f)
 
     pub outputs-done : {o : Names Range × State} → declare (generics []) (M .outputs) σ s ≡ ok o → ported M ≡ ok (s .next, o)
     unfolding _>>=_
@@ -135,15 +127,15 @@ module _ (M : Block ℕ Callee) where
   after-ports =
       regroup (declare (generics []) (M .inputs) (blanks Wires (M .generics)) (some-state 0)) _ _ _ λ i.
       regroup (declare (generics []) (M .outputs) (i .0) (i .1)) _ _ _ λ o.
-      sym (went (λ r. declare (generics []) (M .locals) (r .1 .0) (r .1 .1) >>= λ l. ok (r .0, (r .1 .1 .next - r .0, l))) (i .1 .next, o))
+      sym (went (λ r. declare (generics []) (M .locals) (r .1 .0) (r .1 .1) >>= λ l. ok (r .0, (r .1 .1 .next - r .0, l))) refl)
 
   pub ports-refused : {n p : ℕ} → ported M ≡ refuse n p → begun M ≡ refuse n p
-  ports-refused e = after-ports ∙ refused _ _ e
+  ports-refused e = after-ports ∙ refused _ e
 
   module _ {nin : ℕ} {σ : Names Range} {s : State} (e : ported M ≡ ok (nin, (σ, s))) where
     pub locals-refused : {n p : ℕ} → declare (generics []) (M .locals) σ s ≡ refuse n p → begun M ≡ refuse n p
     unfolding _>>=_
-    locals-refused f = after-ports ∙ rw e (refused _ _ f)
+    locals-refused f = after-ports ∙ rw e (refused _ f)
 
     pub locals-done : {l : Names Range × State} → declare (generics []) (M .locals) σ s ≡ ok l → begun M ≡ ok (nin, (s .next - nin, l))
     unfolding _>>=_

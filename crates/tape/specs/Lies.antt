@@ -49,6 +49,13 @@ module _ {t : List ℕ} {at : ℕ} where
           let f : length a + (i - length a) ≡ i = omega arith in
           subst (λ j. getD t j 0 ≡ getD (a ++ b) i 0) e (m .word (i - length a) (omega (arith, length-append a b)) ∙ sym (getD-append-add a b (i - length a) 0) ∙ ap (λ j. getD (a ++ b) j 0) f)
 
+-- what stands first
+pub lies-front : (a b : List ℕ) → Lies (a ++ b) 0 a
+lies-front a b = record {
+  fits = omega (arith, length-append a b);
+  word = λ i h. let e : 0 + i ≡ i = omega arith in ap (λ k. getD (a ++ b) k 0) e ∙ List·getD-append a b 0 i h;
+}
+
 -- a store elsewhere leaves them
 pub lies-set : {t : List ℕ} {at : ℕ} {ws : List ℕ} (i w : ℕ) → Lies t at ws → ((k : ℕ) → k < length ws → (at + k ≡ i → ⊥)) → Lies (set t i w) at ws
 lies-set {t} {at} {ws} i w l f = record {

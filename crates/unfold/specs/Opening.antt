@@ -10,7 +10,7 @@ use Rattle.rules.specs.Syntax.{Exp, Arg, Decl, Block, Callee}
 use Rattle.rules.specs.Values.{Env, generics, evals, shape}
 use Rattle.rules.specs.Frames.{Sig, Frame as Names, blanks, resolve, resolves, tie}
 use Rattle.rules.specs.Unfold.{Range, Wires, State, declare}
-use Rattle.rules.specs.Laws.Outcomes.{no-ok, ok-inj, inv, inv-at}
+use Rattle.rules.specs.Laws.Outcomes.{no-ok, ok-inj, inv, inv-at, refused, went}
 use Rattle.frames.specs.declared.Frame.{Frame}
 use Rattle.frames.specs.Laid.{laid, column, column-length}
 use Rattle.frames.specs.Stands.{Stands, Knows, knows-generics}
@@ -84,14 +84,6 @@ unfoldable pub Opens : Env → Names Range → List (Exp ℕ) → List (Arg ℕ)
 Opens ρ σ gs args B s place (Body b e w) f = Open ρ σ gs args B s place b e w f
 Opens ρ σ gs args B s place (Wrong k) f = (p : ℕ) × (opened ρ σ gs args B s ≡ refuse k p)
 
-refused : {A B : Type 0} (o : Out A) (K : A → Out B) {k p : ℕ} → o ≡ refuse k p → (o >>= K) ≡ refuse k p
-unfolding _>>=_
-refused o K e = rw e
-
-went : {A B : Type 0} (o : Out A) (K : A → Out B) {a : A} → o ≡ ok a → (o >>= K) ≡ K a
-unfolding _>>=_
-went o K e = rw e
-
 again : {A B : Type 0} {n p k : ℕ} → _≡_ {A = Out A} (refuse n p) (refuse k 0) → _≡_ {A = Out B} (refuse n p) (refuse k 0)
 again {A} {B} {n} {p} {k} e = let q : n ≡ k = cc in let r : p ≡ 0 = cc in rw (q, r)
 
@@ -113,11 +105,11 @@ module _ (ρ : Env) (σ : Names Range) (gs : List (Exp ℕ)) (args : List (Arg �
 
   pub opened-then : {vs : List ℤ} {rs : List Range} {k p : ℕ} → evals ρ gs ≡ ok vs → resolves Wires ρ σ args ≡ ok rs → entered (generics vs) B rs s ≡ refuse k p → opened ρ σ gs args B s ≡ refuse k p
   unfolding _>>=_
-  opened-then e f g = rw (e, f) (refused _ _ g)
+  opened-then e f g = rw (e, f) (refused _ g)
 
   pub opened-ok : {vs : List ℤ} {rs : List Range} {r : Names Range × State} → evals ρ gs ≡ ok vs → resolves Wires ρ σ args ≡ ok rs → entered (generics vs) B rs s ≡ ok r → opened ρ σ gs args B s ≡ ok (vs, r)
   unfolding _>>=_
-  opened-ok e f g = rw (e, f) (went _ _ g)
+  opened-ok e f g = rw (e, f) (went _ g)
 
 -- a call with as many arguments as the block has ports
 pub record WrittenOpen (t : List ℕ) (at end place last : ℕ) (f : Frame) : Type 0 where

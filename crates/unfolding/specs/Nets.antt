@@ -13,7 +13,7 @@ use Rattle.rules.specs.Values.{generics}
 use Rattle.rules.specs.Frames.{Frame as Names}
 use Rattle.rules.specs.Netlist.{gateWords, netWords}
 use Rattle.rules.specs.Unfold.{Range, State, driven, unfolds, deep, Unfolded as Net, unfoldMain}
-use Rattle.rules.specs.Laws.Outcomes.{no-ok}
+use Rattle.rules.specs.Laws.Outcomes.{nth-any}
 use Rattle.rules.specs.Laws.Scoped.{portsOf, namesOf, StmtsOk}
 use Rattle.rules.specs.Laws.Late.{nth-there}
 use Rattle.rules.specs.Laws.Keep.{unfolded-well}
@@ -186,12 +186,6 @@ module _ {len : ℕ} {P : Program} {t places : List ℕ} {last : ℕ} {net : Lis
       )
 
 -- ---- from main on the tape
-
-nth-any : {A : Type 0} (n m : ℕ) (xs : List A) (k : ℕ) {x : A} → nth n xs k ≡ ok x → nth m xs k ≡ ok x
-unfolding nth
-nth-any n m [] k e = absurd (no-ok e)
-nth-any n m (x ∷ xs) zero e = e
-nth-any n m (x ∷ xs) (suc k) e = nth-any n m xs k e
 
 -- main on the tape
 pub record Main (len : ℕ) (P : Program) (t places : List ℕ) (end : ℕ) : Type 0 where

@@ -36,6 +36,21 @@ pub bind-ok : {A B : Type 0} {o : Out A} (K : A → Out B) {a : A} {b : B} → o
 unfolding _>>=_
 bind-ok K e h = rw e h
 
+-- a sequence, by what its first part gives
+pub refused : {A B : Type 0} {o : Out A} (K : A → Out B) {n p : ℕ} → o ≡ refuse n p → (o >>= K) ≡ refuse n p
+unfolding _>>=_
+refused K e = rw e
+
+pub went : {A B : Type 0} {o : Out A} (K : A → Out B) {a : A} → o ≡ ok a → (o >>= K) ≡ K a
+unfolding _>>=_
+went K e = rw e
+
+-- what is done after a sequence is done after its last part
+pub along : {A B C : Type 0} (o : Out A) (f : A → Out B) (K : B → Out C) (g : A → Out C) → ((a : A) → (f a >>= K) ≡ g a) → ((o >>= f) >>= K) ≡ (o >>= g)
+unfolding _>>=_
+along (ok a) f K g h = h a
+along (refuse n p) f K g h = refl
+
 -- a test that is passed
 pub need-yes : (c : Bool) (n : ℕ) {u : Unit {0}} → need c n ≡ ok u → T c
 unfolding need
