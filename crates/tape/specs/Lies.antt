@@ -2,10 +2,9 @@
 use mathlib.Core.Path.{_≡_, refl, sym, ap, _∙_, subst}
 use Prim.Native.Nat.{ℕ, zero, suc, _+_, _-_, _≤_, _<_}
 use native.Mathlib.Omega.{arith}
-use mathlib.Core.Logic.{_≢_}
 use mathlib.Core.List.{List, [], _∷_, _++_}
-use lib.ListN.{length, getD, set, take, drop, length-append, length-set, List·getD-append}
-use lib.Seq.{getD-append-add, getD-set-same, getD-set-other, ext-getD}
+use lib.ListN.{length, getD, length-append, List·getD-append}
+use lib.Seq.{getD-append-add}
 
 pub record Lies (t : List ℕ) (at : ℕ) (ws : List ℕ) : Type 0 where
   pub fits : at + length ws ≤ length t
@@ -36,33 +35,9 @@ module _ {t : List ℕ} {at : ℕ} where
     word = λ i h. let e : at + length a + i ≡ at + (length a + i) = omega arith in ap (λ k. getD t k 0) e ∙ l .word (length a + i) (omega (arith, length-append a b)) ∙ getD-append-add a b i 0;
   }
 
-  pub lies-none : at ≤ length t → Lies t at []
-  lies-none h = record { fits = omega arith; word = λ i k. absurd (omega arith) }
-
-  pub lies-both : (a b : List ℕ) → Lies t at a → Lies t (at + length a) b → Lies t at (a ++ b)
-  lies-both a b l m = record { fits = omega (arith, m .fits, length-append a b); word = λ i h. go i h (native.Mathlib.Decide.decLt i (length a)) }
-    where
-      go : (i : ℕ) → i < length (a ++ b) → Dec (i < length a) → getD t (at + i) 0 ≡ getD (a ++ b) i 0
-      go i h (yes k) = l .word i k ∙ sym (List·getD-append a b 0 i k)
-      go i h (no k) =
-          let e : at + length a + (i - length a) ≡ at + i = omega arith in
-          let f : length a + (i - length a) ≡ i = omega arith in
-          subst (λ j. getD t j 0 ≡ getD (a ++ b) i 0) e (m .word (i - length a) (omega (arith, length-append a b)) ∙ sym (getD-append-add a b (i - length a) 0) ∙ ap (λ j. getD (a ++ b) j 0) f)
-
 -- what stands first
 pub lies-front : (a b : List ℕ) → Lies (a ++ b) 0 a
 lies-front a b = record {
   fits = omega (arith, length-append a b);
   word = λ i h. let e : 0 + i ≡ i = omega arith in ap (λ k. getD (a ++ b) k 0) e ∙ List·getD-append a b 0 i h;
 }
-
--- a store elsewhere leaves them
-pub lies-set : {t : List ℕ} {at : ℕ} {ws : List ℕ} (i w : ℕ) → Lies t at ws → ((k : ℕ) → k < length ws → (at + k ≡ i → ⊥)) → Lies (set t i w) at ws
-lies-set {t} {at} {ws} i w l f = record {
-  fits = omega (arith, l .fits, length-set t i w);
-  word = λ k h. getD-set-other t i (at + k) w 0 (f k h) ∙ l .word k h;
-}
-
--- the tape whose words from `at` on are ws
-pub lies-at : {t : List ℕ} {at : ℕ} {ws : List ℕ} → Lies t at ws → {us : List ℕ} → length us ≡ length ws → Lies t at us → us ≡ ws
-lies-at {t} {at} {ws} l {us} e m = ext-getD 0 us ws e λ i h. sym (m .word i h) ∙ l .word i (omega (arith, e))

@@ -121,9 +121,6 @@ all-append P (x ∷ a) b p q = (p .0, all-append P a b (p .1) q)
 -- a call's generics and arguments, where its words begin, and the statements after it
 module _ (len : ℕ) {t : List ℕ} {at last : ℕ} {p : ℕ} {c : Callee} {gs : List (Exp ℕ)} {ins outs : List (Arg ℕ)} {rest : Stmts ℕ Callee}
     (h : HereStmts len t at last (call p c gs ins outs rest)) where
-  abbrev argsW : List ℕ
-  argsW = listW (argW slotW 4) ins ++ listW (argW slotW 5) outs
-
   pub from-values : Lies t (at + 1) (listW valueW gs ++ (listW (argW slotW 4) ins ++ (listW (argW slotW 5) outs ++ bodyW rest)))
   unfolding stmtsW
   from-values = lies-rest (h .lies)

@@ -73,10 +73,6 @@ module _ (nin : ℕ) (deeper : ℕ → Out Act) (p : ℕ) (gs : List (Exp ℕ)) 
 renumber : {A B : Type 0} {n q k r : ℕ} → _≡_ {A = Out A} (refuse n q) (refuse k r) → (p : ℕ) → _≡_ {A = Out B} (refuse n p) (refuse k p)
 renumber {n = n} {k = k} e p = let x : n ≡ k = cc in rw x
 
-at-refused : {A B : Type 0} (o : Out A) (K : A → Out B) (p : ℕ) {k r : ℕ} → o ≡ refuse k r → (at p o >>= K) ≡ refuse k p
-unfolding at _>>=_
-at-refused o K p e = rw e
-
 -- two parts, and what comes after them
 at-two : {A B X Y : Type 0} (o : Out A) (q : Out B) (L : A → B → Out X) (K : A → B → Out Y) (p : ℕ) {k r : ℕ} → ((a : A) (b : B) → o ≡ ok a → q ≡ ok b → L a b ≡ refuse k r → K a b ≡ refuse k p)
     → (o >>= λ a. q >>= λ b. L a b) ≡ refuse k r → (at p o >>= λ a. at p q >>= λ b. K a b) ≡ refuse k p

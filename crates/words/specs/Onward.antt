@@ -37,16 +37,3 @@ unfolding all
 some-at [] k t = omega arith
 some-at (x ∷ l) zero t = leb→le 1 x (both-yes (leb 1 x) (all (leb 1) l) t .0)
 some-at (x ∷ l) (suc k) t = some-at l k (both-yes (leb 1 x) (all (leb 1) l) t .1)
-
-some-width : (k : ℕ) → (k ≡ 0 → ⊥) → 0 < width k
-unfolding width all
-some-width zero h = absurd (h refl)
-some-width (suc k) h = go (eqb (suc k) 46)
-  where
-    go : (c : Bool) → 0 < cond c 2 (getD widths (suc k) 1)
-    go true = omega arith
-    go false = some-at (5 ∷ 3 ∷ 5 ∷ 3 ∷ 8 ∷ 3 ∷ 2 ∷ 4 ∷ 4 ∷ 6 ∷ 2 ∷ 3 ∷ 6 ∷ 5 ∷ []) k tt
-
--- every mark but the end takes a byte
-pub width-some : {k : ℕ} → (k ≡ 0 → ⊥) → 0 < width k
-width-some {k} h = some-width k h

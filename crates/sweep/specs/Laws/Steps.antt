@@ -191,10 +191,6 @@ module _ (s N : List ℕ) (n w k : ℕ) (p : k ≡ indexOf (lettersOf s w) primi
 
 -- ---- what is found becomes the answer
 
-pub then-ok : {A B : Type 0} {o : Out A} (f : A → B) {a : A} → o ≡ ok a → after o f ≡ ok (f a)
-unfolding after
-then-ok f e = rw e
-
 pub then-no : {A B : Type 0} {o : Out A} (f : A → B) {n p : ℕ} → o ≡ refuse n p → after o f ≡ refuse n p
 unfolding after
 then-no f e = rw e
