@@ -1,15 +1,12 @@
 -- What a reader knows of a word by its places alone. Assumes nothing.
-use Prim.Native.Nat.{ℕ, zero, suc, _+_, _-_, _≤_, _<_}
-use native.Mathlib.Omega.{arith}
-use mathlib.Core.Path.{_≡_, refl}
-use mathlib.Core.Bool.{Bool, true, false, cond}
+use Prim.Native.Nat.{ℕ, _+_, _-_, _≤_, _<_}
+use mathlib.Core.Path.{_≡_}
+use mathlib.Core.Bool.{cond}
 use mathlib.Core.List.{List, [], _∷_}
 use lib.ListN.{getD}
-use lib.Dec.{T, leb, eqb, leb→le}
-use Rattle.rules.specs.Words.{all}
+use lib.Dec.{eqb}
 use Rattle.rules.specs.declared.Word.{Word}
 use Rattle.rules.specs.declared.Word.the-variants.{Bad, Name, Number, Mark}
-use Rattle.rules.specs.Laws.Outcomes.{both-yes}
 
 -- the bytes of the end and of the reserved words, by their numbers
 abbrev pub widths : List ℕ
@@ -31,9 +28,3 @@ Onward len at (Mark k p q) = (at ≤ p + (at - len)) × (q ≡ p + width k) × (
 pub wide : {k : ℕ} (n : ℕ) → k ≡ n → width k ≡ cond (eqb n 46) 2 (getD widths n 1)
 unfolding width
 wide n e = rw e
-
-some-at : (l : List ℕ) (k : ℕ) → T (all (leb 1) l) → 0 < getD l k 1
-unfolding all
-some-at [] k t = omega arith
-some-at (x ∷ l) zero t = leb→le 1 x (both-yes (leb 1 x) (all (leb 1) l) t .0)
-some-at (x ∷ l) (suc k) t = some-at l k (both-yes (leb 1 x) (all (leb 1) l) t .1)
