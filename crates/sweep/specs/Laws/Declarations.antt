@@ -124,13 +124,6 @@ entry-declared s k d few n q =
 
 -- ---- lists of declared names
 
-emit-once : {A B : Type 0} (o : Out (Unit {0})) (w : ℕ) (ea : A → List ℕ) (eb : B → List ℕ) (oa : Out A) (f : A → B) (R : Out (List ℕ)) → ((a : A) → eb (f a) ≡ w ∷ ea a)
-    → emit (λ _. w ∷ []) o (emit ea oa R) ≡ emit eb (o >>= λ _. oa >>= λ a. ok (f a)) R
-unfolding emit after _>>=_
-emit-once (ok u) w ea eb (ok a) f R h = onto-onto (w ∷ []) (ea a) R ∙ ap (λ l. onto l R) (sym (h a))
-emit-once (ok u) w ea eb (refuse n p) f R h = refl
-emit-once (refuse n p) w ea eb oa f R h = refl
-
 joined-words : (w : ℕ) (ws : List ℕ) (o u : Out (Unit {0})) (R : Out (List ℕ)) → emit (λ _. w ∷ []) o (emit (λ _. ws) u R) ≡ emit (λ _. w ∷ ws) (o >>= λ _. u) R
 unfolding emit after _>>=_
 joined-words w ws (ok a) (ok b) R = onto-onto (w ∷ []) ws R
