@@ -1,12 +1,10 @@
 -- The rules' unfolding of one statement, in the pieces that the code has: what each member of the cycle cites. Assumes nothing.
 use mathlib.Core.Path.{_≡_, refl, sym, ap, _∙_, subst}
-use Prim.Native.Nat.{ℕ, zero, suc, _+_, _<_}
-use native.Mathlib.Omega.{arith}
-use mathlib.Core.List.{List, [], _∷_, _++_, map}
-use lib.ListN.{length}
-use lib.IntN.{ℤ, sucℤ, _-ℤ_}
+use Prim.Native.Nat.{ℕ}
+use mathlib.Core.List.{List, _++_, map}
+use lib.IntN.{ℤ, _-ℤ_}
 use Rattle.rules.specs.Outcome.{Out, ok, refuse, _>>=_, at}
-use Rattle.rules.specs.Syntax.{Exp, Arg, Stmts, end, call, loop, Block, Callee, gate, block}
+use Rattle.rules.specs.Syntax.{Exp, Arg, Stmts, call, loop, Block, Callee, gate, block}
 use Rattle.rules.specs.Values.{Env, generics, bound, eval, evals, rounds}
 use Rattle.rules.specs.Frames.{Frame as Names, blanks, resolves, tie, ends}
 use Rattle.rules.specs.Unfold.{Range, Wires, State, Act, tick, declare, emit, gateOn, addGate, act, turns, unfolds, enter}
