@@ -1,0 +1,175 @@
+-- The impostors of 01, as what they answer and leave: none of them keeps the promise of `flatten`. Those that are a change of the code stand
+-- in must-fail/. Assumes nothing.
+use mathlib.Core.Path.{_≡_, refl, sym, ap, _∙_, subst}
+use mathlib.Core.Logic.{_↔_}
+use Prim.Native.Nat.{ℕ, zero, suc, _+_, _*_, _-_, _≤_, _<_}
+use native.Mathlib.Omega.{arith}
+use mathlib.Core.Bool.{Bool, true, false}
+use mathlib.Core.List.{List, [], _∷_, _++_}
+use lib.ListN.{length, getD, replicate, length-replicate, getD-replicate}
+use lib.Seq.{getD-drop}
+use Rattle.rules.specs.Text.{bytes, zeros}
+use Rattle.rules.specs.Outcome.{ok}
+use Rattle.rules.specs.Syntax.{Program}
+use Rattle.rules.specs.Netlist.{inputs, outputs, wires, gates, gateAt, records}
+use Rattle.rules.specs.Meaning.{Signal, Allows, NetAllows}
+use Rattle.rules.specs.Flatten.{Answer, program}
+use Rattle.rules.specs.Edges.{design, designed, twice}
+use Rattle.rules.specs.Laws.Rings.{choice}
+use Rattle.clear.specs.Zeros.{zeros-at, zeros-long}
+use Rattle.netlist.specs.Answers.{Told}
+use Rattle.run.specs.Ran.{Ran}
+use Rattle.flatten.specs.declared.Flattened.{Flattened}
+use Rattle.flatten.specs.Promise.{Flattens, seen}
+use Rattle.flatten.specs.Starts.{Accepted}
+use Rattle.flatten.specs.Code.{done-exactly}
+use Rattle.flatten.specs.Table.{Table, table, Limits, limits, mux}
+
+-- a flattener, as its callers see it: for a text, and a work table and a netlist that are lent, what it answers, and what then stands in both
+pub record Outcome : Type 0 where
+  pub told : Flattened
+  pub work : List ℕ
+  pub words : List ℕ
+
+abbrev pub Flattener : Type 0
+Flattener = List ℕ → List ℕ → List ℕ → Outcome
+
+-- it keeps the promise
+abbrev pub Keeps : Flattener → Type 0
+Keeps F = (text work net : List ℕ) → Flattens text work net (F text work net .told) (F text work net .work) (F text work net .words)
+
+-- the second use of `odd` tied to the wires of the first: its locals are 6 and 7 again
+abbrev pub tied : List ℕ
+tied =
+    2 ∷ 2 ∷ 8 ∷ 8
+    ∷ 0 ∷ 0 ∷ 65535 ∷ 65535 ∷ 4
+    ∷ 0 ∷ 1 ∷ 65535 ∷ 65535 ∷ 5
+    ∷ 8 ∷ 65535 ∷ 65535 ∷ 65535 ∷ 6
+    ∷ 4 ∷ 6 ∷ 4 ∷ 65535 ∷ 7
+    ∷ 0 ∷ 7 ∷ 65535 ∷ 65535 ∷ 2
+    ∷ 8 ∷ 65535 ∷ 65535 ∷ 65535 ∷ 6
+    ∷ 4 ∷ 6 ∷ 5 ∷ 65535 ∷ 7
+    ∷ 0 ∷ 7 ∷ 65535 ∷ 65535 ∷ 3 ∷ []
+
+-- or not unfolded at all: its output is tied to the last wire of the first, 7
+abbrev pub tied-over : List ℕ
+tied-over =
+    2 ∷ 2 ∷ 8 ∷ 6
+    ∷ 0 ∷ 0 ∷ 65535 ∷ 65535 ∷ 4
+    ∷ 0 ∷ 1 ∷ 65535 ∷ 65535 ∷ 5
+    ∷ 8 ∷ 65535 ∷ 65535 ∷ 65535 ∷ 6
+    ∷ 4 ∷ 6 ∷ 4 ∷ 65535 ∷ 7
+    ∷ 0 ∷ 7 ∷ 65535 ∷ 65535 ∷ 2
+    ∷ 0 ∷ 7 ∷ 65535 ∷ 65535 ∷ 3 ∷ []
+
+-- buffers to lend, of the least sizes; the netlist holds old words
+desk : List ℕ
+desk = zeros 16384
+
+sheet : List ℕ
+sheet = replicate 5124 1
+
+desk-long : 16384 ≤ length desk
+unfolding desk
+desk-long = omega (arith, zeros-long 16384)
+
+sheet-long : 5124 ≤ length sheet
+unfolding sheet
+sheet-long = omega (arith, length-replicate {A = ℕ} 5124 1)
+
+old : getD sheet 5123 0 ≡ 1
+unfolding sheet
+old = getD-replicate {A = ℕ} 5124 5123 1 0 (omega arith)
+
+cases : Table desk sheet
+cases = table desk sheet desk-long sheet-long
+
+ends : Limits desk sheet
+ends = limits desk sheet desk-long sheet-long
+
+module _ (F : Flattener) (keeps : Keeps F) where
+  -- ---- the impostors of 01
+
+  -- it refuses everything
+  pub refuses-everything : ((text work net : List ℕ) → F text work net .told .number ≡ 0 → ⊥) → ⊥
+  refuses-everything h = h (bytes design) desk sheet (ap (λ a. a .number) (cases .p5 _ _ _ (keeps _ _ _)))
+
+  -- or any text that the rules accept
+  pub refuses-one : (text work net : List ℕ) → Accepted text (length work) (length net) → (F text work net .told .number ≡ 0 → ⊥) → ⊥
+  refuses-one text work net a h = h (done-exactly (keeps text work net) .1 a)
+
+  -- it has a single fixed netlist: what it leaves where it says done does not depend on the text
+  pub one-netlist : (fixed : List ℕ → List ℕ → List ℕ) → ((text work net : List ℕ) → F text work net .told .number ≡ 0 → F text work net .words ≡ fixed work net) → ⊥
+  one-netlist fixed h =
+      let p = cases .p5 _ _ _ (keeps (bytes design) desk sheet) in
+      let q = cases .p8 _ _ _ (keeps (bytes mux) desk sheet) in
+      let e : designed ++ zeros (length sheet - 29) ≡ choice ++ zeros (length sheet - 9) =
+          sym (ap (λ a. a .words) p) ∙ h _ _ _ (ap (λ a. a .number) p) ∙ sym (h _ _ _ (ap (λ a. a .number) q)) ∙ ap (λ a. a .words) q in
+      let z : _≡_ {A = ℕ} 8 4 = ap wires e in
+      omega arith
+
+  -- it leaves zeros and says done
+  pub zeros-and-done : ((text work net : List ℕ) → F text work net .told .number ≡ 0 → F text work net .words ≡ zeros (length net)) → ⊥
+  zeros-and-done = one-netlist (λ work net. zeros (length net))
+
+  -- it unfolds the first use of a block and ties later uses to its wires
+  pub ties-later-uses : (work net : List ℕ) → 16384 ≤ length work → 5124 ≤ length net → (z : List ℕ) → F (bytes twice) work net .words ≡ tied ++ z → ⊥
+  ties-later-uses work net a b z h =
+      let e = ap (λ a. a .words) (table work net a b .p6 _ _ _ (keeps _ _ _)) in
+      let z : _≡_ {A = ℕ} 10 8 = ap wires (sym e ∙ h) in
+      omega arith
+
+  pub ties-over : (work net : List ℕ) → 16384 ≤ length work → 5124 ≤ length net → (z : List ℕ) → F (bytes twice) work net .words ≡ tied-over ++ z → ⊥
+  ties-over work net a b z h =
+      let e = ap (λ a. a .words) (table work net a b .p6 _ _ _ (keeps _ _ _)) in
+      let z : _≡_ {A = ℕ} 8 6 = ap gates (sym e ∙ h) in
+      omega arith
+
+  -- it invents the steps: they are one number, or the gates, or made of the netlist in any other way
+  pub invents-steps : (made : List ℕ → ℕ) → ((text work net : List ℕ) → F text work net .told .number ≡ 0 → F text work net .told .steps ≡ made (F text work net .words)) → ⊥
+  invents-steps made h =
+      let p = cases .p4 _ _ _ (keeps _ desk sheet) in
+      let q = cases .p7 .0 _ _ _ (keeps _ desk sheet) in
+      let z : _≡_ {A = ℕ} 1 0 =
+          sym (ap (λ a. a .steps) p) ∙ h _ _ _ (ap (λ a. a .number) p) ∙ ap (λ a. made (a .words)) p
+          ∙ sym (ap (λ a. made (a .words)) q) ∙ sym (h _ _ _ (ap (λ a. a .number) q)) ∙ ap (λ a. a .steps) q in
+      omega arith
+
+  -- ---- more of them
+
+  -- it makes the place of the number alone, as 0 for every refusal
+  pub invents-places : (made : ℕ → ℕ) → ((text work net : List ℕ) → (F text work net .told .number ≡ 0 → ⊥) → F text work net .told .place ≡ made (F text work net .told .number)) → ⊥
+  invents-places made h =
+      let p = ends .itself _ _ _ (keeps _ desk sheet) in
+      let q = ends .depth .1 _ _ _ (keeps _ desk sheet) in
+      let n : _≡_ {A = ℕ} 14 0 → ⊥ = λ e. omega arith in
+      let z : _≡_ {A = ℕ} 23 560 =
+          sym (ap (λ a. a .place) p) ∙ h _ _ _ (λ e. n (sym (ap (λ a. a .number) p) ∙ e)) ∙ ap (λ a. made (a .number)) p
+          ∙ sym (ap (λ a. made (a .number)) q) ∙ sym (h _ _ _ (λ e. n (sym (ap (λ a. a .number) q) ∙ e))) ∙ ap (λ a. a .place) q in
+      omega arith
+
+  -- it leaves the words that stand after the records
+  pub keeps-the-tail : ((text work net : List ℕ) (i : ℕ) → F text work net .told .number ≡ 0 → 4 + 5 * gates (F text work net .words) ≤ i → getD (F text work net .words) i 0 ≡ getD net i 0) → ⊥
+  keeps-the-tail h =
+      let p = cases .p5 _ _ _ (keeps (bytes design) desk sheet) in
+      let l : 4 + 5 * gates (F (bytes design) desk sheet .words) ≤ 5123 = subst (λ w. 4 + 5 * gates w ≤ 5123) (sym (ap (λ a. a .words) p)) (omega arith) in
+      let z : _≡_ {A = ℕ} 0 1 =
+          sym (zeros-at (length sheet - 29) 5094) ∙ sym (ap (λ a. getD (a .words) 5123 0) p) ∙ h _ _ _ 5123 (ap (λ a. a .number) p) l ∙ old in
+      omega arith
+
+  -- it leaves the work table dirty: a word of it, on one path, for one text
+  pub leaves-the-table-dirty : (text work net : List ℕ) (i : ℕ) → (getD (F text work net .work) i 0 ≡ 0 → ⊥) → ⊥
+  leaves-the-table-dirty text work net i h = h (ap (λ t. getD t i 0) (keeps text work net .clean) ∙ zeros-at (length work) i)
+
+  -- it counts main's outputs as inputs
+  pub outputs-as-inputs : (work net : List ℕ) → 16384 ≤ length work → 5124 ≤ length net → inputs (F (bytes design) work net .words) ≡ 4 → ⊥
+  outputs-as-inputs work net a b h =
+      let z : _≡_ {A = ℕ} 3 4 = sym (ap (λ a. inputs (a .words)) (table work net a b .p5 _ _ _ (keeps _ _ _))) ∙ h in
+      omega arith
+
+  -- a runner that shows 2 on every wire
+  pub shows-2 : (work net : List ℕ) → 16384 ≤ length work → 5124 ≤ length net → (len : ℕ) (t : Told) (values : List ℕ) → 1536 ≤ len
+      → Ran (F (bytes design) work net .words) (1 ∷ 1 ∷ 0 ∷ []) len t values → ((i : ℕ) → getD values i 0 ≡ 2) → ⊥
+  shows-2 work net a b len t values l g all =
+      let z : _≡_ {A = ℕ} 2 0 = sym (all 3) ∙ table work net a b .p5-run _ _ _ (keeps _ _ _) len t values l g .1 in
+      omega arith
