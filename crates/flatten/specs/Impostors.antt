@@ -8,15 +8,14 @@ use native.Mathlib.Omega.{arith}
 use mathlib.Core.Bool.{Bool, true, false, cond}
 use mathlib.Core.List.{List, [], _∷_, _++_, map}
 use lib.ListN.{length, getD, replicate, length-replicate, getD-replicate}
-use lib.Seq.{getD-drop}
 use Rattle.rules.specs.Text.{bytes, zeros}
 use Rattle.rules.specs.Outcome.{ok}
 use Rattle.rules.specs.Syntax.{Program}
-use Rattle.rules.specs.Netlist.{inputs, outputs, wires, gates, gateAt, records}
+use Rattle.rules.specs.Netlist.{inputs, outputs, wires, gates, gateAt}
 use Rattle.rules.specs.Meaning.{Signal, dark, makes, GateHolds, carried, Allows, NetAllows}
 use Rattle.rules.specs.Run.{fromByte}
 use Rattle.rules.specs.Primitives.{primitive}
-use Rattle.rules.specs.Flatten.{program, flatten}
+use Rattle.rules.specs.Flatten.{Answer, program, flatten}
 use Rattle.rules.specs.Edges.{design, designed, twice}
 use Rattle.rules.specs.Laws.Rings.{choice}
 use Rattle.clear.specs.Zeros.{zeros-at, zeros-long}
@@ -126,11 +125,10 @@ module _ (F : Flattener) (keeps : Keeps F) where
   -- it has a single fixed netlist: what it leaves where it says done does not depend on the text
   pub one-netlist : (fixed : List ℕ → List ℕ → List ℕ) → ((text work net : List ℕ) → F text work net .told .number ≡ 0 → F text work net .words ≡ fixed work net) → ⊥
   one-netlist fixed h =
-      let p = cases .p5 _ _ _ (keeps (bytes design) desk sheet) in
-      let q = cases .p8 _ _ _ (keeps (bytes mux) desk sheet) in
-      let e : designed ++ zeros (length sheet - 29) ≡ choice ++ zeros (length sheet - 9) =
-          sym (ap (λ a. a .words) p) ∙ h _ _ _ (ap (λ a. a .number) p) ∙ sym (h _ _ _ (ap (λ a. a .number) q)) ∙ ap (λ a. a .words) q in
-      let z : _≡_ {A = ℕ} 8 4 = ap wires e in
+      let K : Answer → Type 0 = λ a. a .number ≡ 0 → a .words ≡ fixed desk sheet in
+      let p = subst K (cases .p5 _ _ _ (keeps _ _ _)) (h _ _ _) refl in
+      let q = subst K (cases .p8 _ _ _ (keeps _ _ _)) (h _ _ _) refl in
+      let z : _≡_ {A = ℕ} 8 4 = ap wires (p ∙ sym q) in
       omega arith
 
   -- it leaves zeros and says done
@@ -153,11 +151,10 @@ module _ (F : Flattener) (keeps : Keeps F) where
   -- it invents the steps: they are one number, or the gates, or made of the netlist in any other way
   pub invents-steps : (made : List ℕ → ℕ) → ((text work net : List ℕ) → F text work net .told .number ≡ 0 → F text work net .told .steps ≡ made (F text work net .words)) → ⊥
   invents-steps made h =
-      let p = cases .p4 _ _ _ (keeps _ desk sheet) in
-      let q = cases .p7 .0 _ _ _ (keeps _ desk sheet) in
-      let z : _≡_ {A = ℕ} 1 0 =
-          sym (ap (λ a. a .steps) p) ∙ h _ _ _ (ap (λ a. a .number) p) ∙ ap (λ a. made (a .words)) p
-          ∙ sym (ap (λ a. made (a .words)) q) ∙ sym (h _ _ _ (ap (λ a. a .number) q)) ∙ ap (λ a. a .steps) q in
+      let K : Answer → Type 0 = λ a. a .number ≡ 0 → a .steps ≡ made (a .words) in
+      let p = subst K (cases .p4 _ _ _ (keeps _ _ _)) (h _ _ _) refl in
+      let q = subst K (cases .p7 .0 _ _ _ (keeps _ _ _)) (h _ _ _) refl in
+      let z : _≡_ {A = ℕ} 1 0 = p ∙ sym q in
       omega arith
 
   -- ---- more of them
@@ -165,21 +162,18 @@ module _ (F : Flattener) (keeps : Keeps F) where
   -- it makes the place of the number alone, as 0 for every refusal
   pub invents-places : (made : ℕ → ℕ) → ((text work net : List ℕ) → (F text work net .told .number ≡ 0 → ⊥) → F text work net .told .place ≡ made (F text work net .told .number)) → ⊥
   invents-places made h =
-      let p = ends .itself _ _ _ (keeps _ desk sheet) in
-      let q = ends .depth .1 _ _ _ (keeps _ desk sheet) in
-      let n : _≡_ {A = ℕ} 14 0 → ⊥ = λ e. omega arith in
-      let z : _≡_ {A = ℕ} 23 560 =
-          sym (ap (λ a. a .place) p) ∙ h _ _ _ (λ e. n (sym (ap (λ a. a .number) p) ∙ e)) ∙ ap (λ a. made (a .number)) p
-          ∙ sym (ap (λ a. made (a .number)) q) ∙ sym (h _ _ _ (λ e. n (sym (ap (λ a. a .number) q) ∙ e))) ∙ ap (λ a. a .place) q in
+      let K : Answer → Type 0 = λ a. (a .number ≡ 0 → ⊥) → a .place ≡ made (a .number) in
+      let p = subst K (ends .itself _ _ _ (keeps _ _ _)) (h _ _ _) (λ e. omega arith) in
+      let q = subst K (ends .depth .1 _ _ _ (keeps _ _ _)) (h _ _ _) (λ e. omega arith) in
+      let z : _≡_ {A = ℕ} 23 560 = p ∙ sym q in
       omega arith
 
   -- it leaves the words that stand after the records
   pub keeps-the-tail : ((text work net : List ℕ) (i : ℕ) → F text work net .told .number ≡ 0 → 4 + 5 * gates (F text work net .words) ≤ i → getD (F text work net .words) i 0 ≡ getD net i 0) → ⊥
   keeps-the-tail h =
-      let p = cases .p5 _ _ _ (keeps (bytes design) desk sheet) in
-      let l : 4 + 5 * gates (F (bytes design) desk sheet .words) ≤ 5123 = subst (λ w. 4 + 5 * gates w ≤ 5123) (sym (ap (λ a. a .words) p)) (omega arith) in
-      let z : _≡_ {A = ℕ} 0 1 =
-          sym (zeros-at (length sheet - 29) 5094) ∙ sym (ap (λ a. getD (a .words) 5123 0) p) ∙ h _ _ _ 5123 (ap (λ a. a .number) p) l ∙ old in
+      let K : Answer → Type 0 = λ a. (i : ℕ) → a .number ≡ 0 → 4 + 5 * gates (a .words) ≤ i → getD (a .words) i 0 ≡ getD sheet i 0 in
+      let p = subst K (cases .p5 _ _ _ (keeps _ _ _)) (h _ _ _) 5123 refl (omega arith) in
+      let z : _≡_ {A = ℕ} 0 1 = sym (zeros-at (length sheet - 29) 5094) ∙ p ∙ old in
       omega arith
 
   -- it leaves the work table dirty: a word of it, on one path, for one text
