@@ -5,3 +5,4 @@ pub mod Code
 pub mod Round
 pub mod Longer
 pub mod Table
+pub mod Impostors
