@@ -21,7 +21,7 @@ pub fn flat_text(netlist: &Netlist) -> String {
     text += "BEGIN\n";
     let gates: Vec<String> = netlist.gates.iter().map(gate_line).collect();
     text += &gates.join(";\n");
-    // Ruling 25: with no gates, `END;` follows `BEGIN`.
+    // With no gates, `END;` follows `BEGIN`.
     if !gates.is_empty() {
         text += "\n";
     }
@@ -73,7 +73,7 @@ pub fn read(text: &[u8], words: &mut [u16]) -> u8 {
 }
 
 /// The well-formed netlist that is written as this text, if there is one.
-/// Ruling 25: reading accepts exactly what writing gives. So the text is only
+/// Reading accepts exactly what writing gives. So the text is only
 /// glanced at, and the netlist that it seems to be must be written as it.
 fn netlist_written_as(text: &[u8]) -> Option<Netlist> {
     let text = std::str::from_utf8(text).ok()?;

@@ -52,7 +52,7 @@ fn flattened(text: &[u8], lent_enough: bool) -> Result<Unfolded, Refusal> {
 }
 
 /// "Program: reads Pebble text from standard input and prints the flat text,
-/// or one line `refused N P`" (ended by LF, ruling 26).
+/// or one line `refused N P`" (ended by LF).
 pub fn pebble(text: &[u8]) -> Vec<u8> {
     match flattened(text, true) {
         Ok(Unfolded { netlist, .. }) => printed(&netlist),

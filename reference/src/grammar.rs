@@ -177,7 +177,7 @@ impl<'t> Reader<'t> {
         }
     }
 
-    /// A name that the block declares. Ruling 8: generics, ports and all VARs
+    /// A name that the block declares. Generics, ports and all VARs
     /// count, a repeated name again; the 49th is refused at that word.
     fn declared_name(&mut self) -> Result<Name<'t>, Refusal> {
         let name = self.name()?;
@@ -410,7 +410,7 @@ impl<'t> Reader<'t> {
     }
 }
 
-/// Ruling 9: 15 levels inside the first are accepted; the 16th is refused at
+/// 15 levels inside the first are accepted; the 16th is refused at
 /// its bracket or minus.
 fn open_level(level: usize, place: usize) -> Result<usize, Refusal> {
     if level >= LEVELS {

@@ -1,5 +1,5 @@
 //! An independent reference of the small hardware-description flattener of
-//! `01-scope.md`, read with `RULINGS.md` 1 to 26. Standard library only.
+//! `docs/01-scope.md`, read as `docs/DECISIONS.md` says. Standard library only.
 //!
 //! One module per part of document 01:
 //!

@@ -1,7 +1,7 @@
 //! Answers 6 to 9. "Then 6 to 8 block by block in byte order, each at the
 //! name it concerns; of two like names the first counts".
 //!
-//! Ruling 11: one sweep over each block's names by byte position, the blocks
+//! One sweep over each block's names by byte position, the blocks
 //! in text order, with no pass over all block names first.
 
 use crate::answer::{Refusal, Why};
@@ -15,8 +15,8 @@ pub enum Called<'a, 't> {
     Block(&'a Block<'t>),
 }
 
-/// Ruling 12: blocks and primitives share a name space, and a name borne by
-/// both means the primitive. Of two like blocks the first counts (ruling 10).
+/// Blocks and primitives share a name space, and a name borne by
+/// both means the primitive. Of two like blocks the first counts.
 pub fn called<'a, 't>(blocks: &'a [Block<'t>], name: &str) -> Option<Called<'a, 't>> {
     if let Some(kind) = Gate::kind_named(name) {
         return Some(Called::Primitive(kind));
@@ -81,7 +81,7 @@ impl Meaning {
 /// The sweep over one block.
 struct Sweep<'a, 't> {
     blocks: &'a [Block<'t>],
-    /// The block's names declared so far. Ruling 12: these are a name space of
+    /// The block's names declared so far. These are a name space of
     /// their own, apart from blocks and primitives.
     declared: Vec<(&'t str, Meaning)>,
     /// The indices of the loops around the present statement.
@@ -111,7 +111,7 @@ impl<'a, 't> Sweep<'a, 't> {
         Ok(())
     }
 
-    /// Ruling 10: 6 is at the second of two like names.
+    /// 6 is at the second of two like names.
     fn declare(&mut self, name: Name<'t>, meaning: Meaning) -> Result<(), Refusal> {
         if self.meaning(name).is_some() {
             return Err(Why::NamedTwice.at(name.place));
@@ -137,7 +137,7 @@ impl<'a, 't> Sweep<'a, 't> {
         Ok(())
     }
 
-    /// Ruling 14: the index must be a declared NUM. Ruling 13: the bounds do
+    /// The index must be a declared NUM. The bounds do
     /// not see the loop's own index.
     fn generate(&mut self, repeated: &Loop<'t>) -> Result<(), Refusal> {
         if self.meaning(repeated.index) != Some(Meaning::Num) {
@@ -151,7 +151,7 @@ impl<'a, 't> Sweep<'a, 't> {
         Ok(())
     }
 
-    /// "at a call's name 7, then its counts (8)"; ruling 15: then the names in
+    /// "at a call's name 7, then its counts (8)"; then the names in
     /// generics, inputs and outputs by byte.
     fn call(&mut self, call: &Call<'t>) -> Result<(), Refusal> {
         let place = call.name.place;
@@ -179,7 +179,7 @@ impl<'a, 't> Sweep<'a, 't> {
             (Some(Meaning::Wire), None) => Shape::Wire,
             (Some(Meaning::Vector), None) => Shape::Vector,
             (Some(Meaning::Vector), Some(_)) => Shape::Wire,
-            // Unknown, a subscript on a WIRE, or (ruling 14) a NUM or generic.
+            // Unknown, a subscript on a WIRE, or a NUM or generic.
             _ => return Err(Why::WrongName.at(place)),
         };
         if given != wanted {

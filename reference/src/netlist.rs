@@ -106,7 +106,7 @@ pub struct Netlist {
 
 impl Netlist {
     /// The netlist that lies in these words, if it is well formed.
-    /// Ruling 23: too short for its records is 19; words after them are free.
+    /// Too short for its records is 19; words after them are free.
     pub fn from_words(words: &[u16]) -> Option<Netlist> {
         let contents = words.get(..CONTENTS)?;
         let [inputs, outputs, wires, gates] = [0, 1, 2, 3].map(|at| contents[at] as usize);

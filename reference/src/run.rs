@@ -58,7 +58,7 @@ fn add_known(gates: &[Gate], values: &mut [u8]) -> bool {
     added
 }
 
-/// "a gate whose inputs are all known makes its output known" (ruling 24: it
+/// "a gate whose inputs are all known makes its output known" (it
 /// waits for all of them).
 fn known_bits(gate: &Gate, values: &[u8]) -> Option<Vec<bool>> {
     let bit = |&wire: &u16| match values[wire as usize] {

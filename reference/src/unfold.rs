@@ -82,7 +82,7 @@ impl<'t> Scope<'t> {
         found.expect("a checked name").1
     }
 
-    // Ruling 20: every left-grouped part is a subexpression.
+    // Every left-grouped part is a subexpression.
 
     fn expression(&self, expression: &Expression) -> Result<i64, Why> {
         let mut value = self.term(&expression.first)?;
@@ -124,7 +124,7 @@ impl<'t> Scope<'t> {
         Ok((b, length))
     }
 
-    /// An argument's wire or wires. Ruling 19: a subscript whole, its value
+    /// An argument's wire or wires. A subscript whole, its value
     /// (10) and then 12.
     fn argument(&self, argument: &Argument) -> Result<Held, Why> {
         let held = self.wires[argument.name.text];
@@ -152,7 +152,7 @@ fn in_range(value: i64) -> Result<i64, Why> {
 
 struct Unfolding<'a, 't> {
     blocks: &'a [Block<'t>],
-    /// Ruling 17: the input wires of the outermost main are 0..main_inputs.
+    /// The input wires of the outermost main are 0..main_inputs.
     main_inputs: usize,
     wires: usize,
     gates: Vec<Gate>,
@@ -200,7 +200,7 @@ impl<'a, 't> Unfolding<'a, 't> {
         Ok(())
     }
 
-    /// Ruling 19: a vector that crosses wire 1,536 is 16 as a whole.
+    /// A vector that crosses wire 1,536 is 16 as a whole.
     fn new_wires(&mut self, count: usize) -> Result<usize, Why> {
         let first = self.wires;
         if first + count > WIRES {

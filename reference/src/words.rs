@@ -1,6 +1,6 @@
 //! "Words and order of words", first paragraph: cutting a text into words.
 //!
-//! Words are cut one at a time, on demand, because (ruling 1) nothing after
+//! Words are cut one at a time, on demand, because nothing after
 //! the first wrong word is looked at.
 
 use crate::answer::{Refusal, Why};
@@ -13,7 +13,7 @@ pub const RESERVED: [&str; 14] = [
 
 /// "Marks: ( ) [ ] , ; : = + - * .."
 /// No mark is the front of another, so taking the longest is taking the one
-/// that fits (ruling 4).
+/// that fits.
 pub const MARKS: [&str; 12] = ["..", "(", ")", "[", "]", ",", ";", ":", "=", "+", "-", "*"];
 
 /// "A name is a letter and up to 15 more letters, digits or underscores"
@@ -84,12 +84,12 @@ impl<'t> Words<'t> {
     }
 }
 
-/// Letters are ASCII (ruling 2).
+/// Letters are ASCII.
 fn is_run_byte(byte: u8) -> bool {
     byte.is_ascii_alphanumeric() || byte == b'_'
 }
 
-/// A run is a reserved word, a name, a number or (ruling 3) one bad word.
+/// A run is a reserved word, a name, a number or one bad word.
 fn word_of_run(run: &[u8]) -> Option<Word<'_>> {
     let run = std::str::from_utf8(run).expect("a run is ASCII");
     if let Some(reserved) = RESERVED.into_iter().find(|&reserved| reserved == run) {

@@ -1,4 +1,4 @@
-//! Answers 6 to 9, rulings 10 to 17.
+//! Answers 6 to 9.
 mod common;
 use common::*;
 
@@ -18,7 +18,6 @@ fn names_declared_twice() {
 
 #[test]
 fn two_name_spaces() {
-    // Ruling 12.
     let text = "BLOCK main [and:WIRE] [main:WIRE] VAR f:WIRE;
         BEGIN and [and,and] [f]; f [f] [main] END;
         BLOCK f [f:WIRE] [not:WIRE] BEGIN not [f] [not] END;";
@@ -31,7 +30,6 @@ fn two_name_spaces() {
 
 #[test]
 fn one_sweep_by_byte() {
-    // Ruling 11.
     refuses(7, "BLOCK f [a:VECTOR (@x..0) OF WIRE,a:WIRE] [] BEGIN END;");
     refuses(7, "BLOCK f [] [] BEGIN @x [] [] END; BLOCK f [] [] BEGIN END;");
     refuses(6, "BLOCK f [] [] BEGIN END; BLOCK @f [] [] BEGIN x [] [] END;");
@@ -57,7 +55,6 @@ fn the_first_of_two_counts() {
 
 #[test]
 fn names_in_expressions() {
-    // Ruling 13.
     let text = |bound: &str, inside: &str| {
         format!(
             "BLOCK f (n) [w:WIRE,v:VECTOR (n..0) OF WIRE] [] VAR i:NUM; VAR j:NUM;
@@ -86,7 +83,6 @@ fn names_in_expressions() {
 
 #[test]
 fn loop_indices() {
-    // Ruling 14.
     let text = |index: &str| {
         format!(
             "BLOCK f (n) [w:WIRE,v:VECTOR (n..0) OF WIRE] [] VAR i:NUM;
@@ -103,7 +99,6 @@ fn loop_indices() {
 
 #[test]
 fn calls() {
-    // Ruling 15.
     let text = |call: &str| {
         format!(
             "BLOCK main [] [] BEGIN END;
@@ -157,7 +152,6 @@ fn calls() {
 
 #[test]
 fn main_last_of_all() {
-    // Ruling 16.
     refuses(9, "BLOCK Main [] [] BEGIN END; \n@");
     refuses(9, "BLOCK @main (n) [] [] BEGIN END; BLOCK f [] [] BEGIN END;");
     refuses(7, "BLOCK main (n) [] [] BEGIN END; BLOCK f [] [] BEGIN @x [] [] END;");
@@ -177,7 +171,7 @@ fn an_unused_block_with_an_unknown_name() {
 
 #[test]
 fn main_may_be_called() {
-    // Ruling 17: its locals afresh, faults of its declarations at the call.
+    // Its locals afresh, faults of its declarations at the call.
     let text = "BLOCK main [a:WIRE] [b:WIRE] VAR c:WIRE; VAR i:NUM;
         BEGIN GENERATE FOR i=1..0 BEGIN main [a] [b] END; f [a] [b] END;
         BLOCK f [a:WIRE] [b:WIRE] BEGIN not [a] [b] END;";

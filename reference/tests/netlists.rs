@@ -1,4 +1,4 @@
-//! Answers 19 and 20, rulings 23 to 25.
+//! Answers 19 and 20.
 mod common;
 use common::*;
 use reference::flat::{flat_text, read, write};
@@ -44,7 +44,6 @@ fn well_formed(words: &[u16]) -> bool {
 fn when_a_netlist_is_well_formed() {
     let odd = odd();
     assert!(well_formed(&odd));
-    // Ruling 23.
     assert!(!well_formed(&[]));
     for length in 0..odd.len() {
         assert!(!well_formed(&odd[..length]));
@@ -144,7 +143,7 @@ fn primitives() {
 
 #[test]
 fn a_gate_waits_for_all_its_inputs() {
-    // Ruling 24: wire 0 is an input, wire 1 nothing drives.
+    // Wire 0 is an input, wire 1 nothing drives.
     let values = |gates: Vec<Gate>| {
         let netlist = Netlist { inputs: 1, outputs: 0, wires: 4, gates };
         run_with(&netlist.to_words(), &[0], 1_536).1[..4].to_vec()
@@ -204,7 +203,7 @@ fn reading_accepts_only_what_is_written() {
         assert!(ODD_FLAT.contains(from));
         refused(&ODD_FLAT.replacen(from, to, 1));
     };
-    // Ruling 25: no other spacing, no leading zeros, a last LF, nothing after.
+    // No other spacing, no leading zeros, a last LF, nothing after.
     refused(ODD_FLAT.trim_end());
     refused(&format!("{ODD_FLAT}\n"));
     refused(&format!("{ODD_FLAT} "));

@@ -1,4 +1,4 @@
-//! Answers 1 to 5, rulings 1 to 9.
+//! Answers 1 to 5.
 mod common;
 use common::*;
 use reference::flatten::{flatten, Answer, LEAST_WORK};
@@ -42,7 +42,7 @@ fn a_long_text_comes_second() {
 fn separators_only() {
     assert_eq!(refusal(""), (4, 0));
     assert_eq!(refusal(" \t\r\n"), (4, 4));
-    // Ruling 16: trailing separators count in the text's length.
+    // Trailing separators count in the text's length.
     assert_eq!(refusal("BLOCK main \n\n"), (4, 13));
     assert_eq!(refusal("BLOCK\tmain\r[][]\nBEGIN END ;"), (0, 0));
 }
@@ -63,14 +63,14 @@ fn bytes_of_no_kind() {
         let mut text = b"BLOCK ".to_vec();
         text.push(byte);
         let (answer, _) = answer(&text);
-        assert_eq!((answer.number, answer.place), (3, 6), "ruling 2, {byte}");
+        assert_eq!((answer.number, answer.place), (3, 6), "{byte}");
     }
 }
 
 #[test]
 fn bad_words_are_whole() {
     for word in ["1a", "_a", "abcdefghijklmnopq", "1234567", "0000001", "1_", "BLOCKBLOCKBLOCKBB"] {
-        assert_eq!(refusal(&format!(" {word} ?")), (3, 1), "ruling 3, {word}");
+        assert_eq!(refusal(&format!(" {word} ?")), (3, 1), "{word}");
     }
     refuses(3, "BLOCK main [] [] BEGIN f (@0000001) [] [] END;");
     refuses(7, "BLOCK main [] [] BEGIN @f (000001) [] [] END;");
@@ -132,7 +132,6 @@ fn order_of_blocks() {
 
 #[test]
 fn order_of_statements() {
-    // Rulings 6 and 7.
     refuses(4, &body("f (@) [] []"));
     refuses(4, "BLOCK main [] [] BEGIN f [] []; @END;");
     refuses(4, &body("@; f [] []"));
@@ -195,7 +194,7 @@ fn the_49th_name() {
     refuses(5, &format!("{full} VAR @x ? BEGIN END;"));
     refuses(4, &format!("{full} VAR @VAR"));
     refuses(3, &format!("{full} VAR @1x"));
-    // A repeated name counts again; 6 comes later (ruling 8).
+    // A repeated name counts again; 6 comes later.
     let same = many(48, ",", |_| "a:WIRE".into());
     refuses(5, &format!("BLOCK main [{same},@a:WIRE] [] BEGIN END;"));
     refuses(6, "BLOCK main [a:WIRE,@a:WIRE] [] BEGIN END;");

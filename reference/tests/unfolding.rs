@@ -1,4 +1,4 @@
-//! Answers 10 to 18, rulings 18 to 22, the P and R lists of 01.
+//! Answers 10 to 18, the P and R lists of 01.
 mod common;
 use common::*;
 use reference::flatten::pebble;
@@ -45,7 +45,6 @@ fn p1_p2_p3_values() {
     assert_eq!(value("-(2+3)*-2"), Some(10));
     assert_eq!(value("2--3"), Some(5));
     assert_eq!(value("000007"), Some(7));
-    // Ruling 20.
     assert_eq!(value("999999+2-5"), None);
     assert_eq!(value("999999-5+2-999990"), Some(6));
     assert_eq!(value("999999+1-999999"), Some(1));
@@ -226,7 +225,7 @@ fn subscripts() {
     refuses(12, &text("@not [x(4)] [z(-1)]"));
     refuses(12, &text("@not [x(4)] [z(4)]"));
     refuses(10, &text("@not [x(1000*1001)] [z(0)]"));
-    // Each whole, left to right (ruling 19).
+    // Each whole, left to right.
     refuses(12, &text("@and [x(3),x(1000*1001)] [z(0)]"));
     refuses(10, &text("@and [x(1000*1001),x(3)] [z(0)]"));
     refuses(12, &text("@and [x(5),x(5)] [z(999999)]"));
@@ -377,7 +376,7 @@ fn steps() {
     refuses(10, &text(19_998, "; @GENERATE FOR i=1000*1001..0 BEGIN END"));
     refuses(15, &text(19_998, "; @GENERATE FOR i=0..0 BEGIN END"));
     assert_eq!(done(&plain(19_998, "; GENERATE FOR i=1..0 BEGIN END")).1, 20_000);
-    // Bounds of a million are legal and end in 15 (ruling 21).
+    // Bounds of a million are legal and end in 15.
     refuses(
         15,
         "BLOCK main [] [] VAR i:NUM; BEGIN @GENERATE FOR i=-1000*1000..1000*1000 BEGIN END END;",
@@ -464,7 +463,6 @@ fn faults_of_mains_declarations_in_order() {
 
 #[test]
 fn the_program() {
-    // Ruling 26.
     assert_eq!(pebble(b""), b"refused 4 0\n");
     assert_eq!(pebble(&[b' '; 16_385]), b"refused 2 0\n");
     assert_eq!(pebble(b"BLOCK f [] [] BEGIN END;\n"), b"refused 9 25\n");

@@ -6,7 +6,9 @@
 //! * `edges`    - texts at the limits, and several faults at one statement
 //! * `damage`   - texts with words or bytes changed
 //! * `nets`     - netlists and flat texts, whole and damaged
+//! * `cases`    - fixed cases: every limit, every prefix, every length
 
+pub mod cases;
 pub mod damage;
 pub mod edges;
 pub mod nets;

@@ -15,7 +15,7 @@ pub fn netlist_words(random: &mut Random) -> Vec<u16> {
         }
     }
     if random.chance(25) {
-        // Ruling 23: words after the records are free.
+        // Words after the records are free.
         for _ in 0..random.below(20) {
             words.push(any_word(random));
         }

@@ -117,7 +117,7 @@ fn kind(random: &mut Random, generics: usize) -> Kind {
     Kind::Vector { low, length }
 }
 
-/// Names of one block, each given once. Rulings 12: they may be those of
+/// Names of one block, each given once. They may be those of
 /// blocks and primitives.
 struct Names {
     taken: Vec<String>,
