@@ -37,7 +37,7 @@ fn close(text: &[u8], tape: &mut [u32], at: usize, to: usize, end: usize, head: 
 }
 
 // A factor, where `left` more levels may be opened. `head` says what stands before it.
-pub fn factor(text: &[u8], tape: &mut [u32], at: usize, to: usize, left: usize, head: u32) -> Read
+fn factor(text: &[u8], tape: &mut [u32], at: usize, to: usize, left: usize, head: u32) -> Read
     requires { ⌜ Room left (now text) (now tape) at to × (head < 8) ⌝ }
     ensures { λ r. ⌜ Gives none (expW nameW head) (factorAt (now (text .entry)) left at) (now (tape .entry)) to (now (tape .exit)) r ⌝ }
     ensures { λ r. ⌜ Spends 1 0 (length (now (text .entry))) at to r ⌝ }
@@ -76,7 +76,7 @@ pub fn factor(text: &[u8], tape: &mut [u32], at: usize, to: usize, left: usize, 
 }
 
 // A term: factors joined by *.
-pub fn term(text: &[u8], tape: &mut [u32], at: usize, to: usize, left: usize, head: u32) -> Read
+fn term(text: &[u8], tape: &mut [u32], at: usize, to: usize, left: usize, head: u32) -> Read
     requires { ⌜ Room left (now text) (now tape) at to × (head < 8) ⌝ }
     ensures { λ r. ⌜ Gives none (expW nameW head) (chain (now (text .entry)) isProduct (factorAt (now (text .entry)) left) at) (now (tape .entry)) to (now (tape .exit)) r ⌝ }
     ensures { λ r. ⌜ Spends 1 0 (length (now (text .entry))) at to r ⌝ }
@@ -102,14 +102,7 @@ pub fn term(text: &[u8], tape: &mut [u32], at: usize, to: usize, left: usize, he
 }
 
 // An expression: terms joined by + or -.
-pub fn expression(
-    text: &[u8],
-    tape: &mut [u32],
-    at: usize,
-    to: usize,
-    left: usize,
-    head: u32,
-) -> Read
+fn expression(text: &[u8], tape: &mut [u32], at: usize, to: usize, left: usize, head: u32) -> Read
     requires { ⌜ Room left (now text) (now tape) at to × (head < 8) ⌝ }
     ensures { λ r. ⌜ Gives none (expW nameW head) (expressionOf (now (text .entry)) (factorAt (now (text .entry)) left) at) (now (tape .entry)) to (now (tape .exit)) r ⌝ }
     ensures { λ r. ⌜ Spends 1 0 (length (now (text .entry))) at to r ⌝ }

@@ -56,7 +56,7 @@ fn wide(x: u16) -> usize
 }
 
 // The wires of the argument at `at`: its subscript's value (10), then 12.
-pub fn argument(tape: &[u32], f: Frame, at: usize, end: usize) -> Found
+fn argument(tape: &[u32], f: Frame, at: usize, end: usize) -> Found
     requires { ⌜ WrittenArg (now tape) at end f ⌝ }
     ensures { λ r. ⌜ ((ρ : Env) (σ : Names Range) (kind : ℕ) (a : Arg ℕ) → Stands f ρ σ → HereArg (now (tape .entry)) at end kind (length σ) a
         → Finds (resolve Wires ρ σ a) (at + length (argW slotW kind a)) r) ⌝ }
