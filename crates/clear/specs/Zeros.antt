@@ -1,6 +1,6 @@
 -- Memory that is all zero, at any width. Assumes nothing.
-use Rattle.std.specs.Prelude.{◌≡◌, refl, List, [], ◌∷◌, ◌++◌, ℕ, zero, suc, ◌+◌, ◌-◌, ◌≤◌, ◌<◌, length, get_or, set, drop}
-use Rattle.std.proofs.Common.{sym, ap, ◌∙◌, append-nil, arith, length-set}
+use Rattle.std.specs.Prelude.{◌≡◌, refl, List, ◌++◌, ℕ, zero, suc, ◌+◌, ◌-◌, ◌≤◌, ◌<◌, length, get_or, set, drop}
+use Rattle.std.proofs.Common.{ap, ◌∙◌, append-nil, arith, length-set}
 use Rattle.std.proofs.lemmas.List.{length-replicate}
 use Rattle.std.proofs.Math.Seq.{drop-length}
 use Rattle.std.proofs.lemmas.List.Edits.{fill_more}

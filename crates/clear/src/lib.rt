@@ -1,4 +1,6 @@
 // Lent memory set to zero: what a job did not use, and what a refusal leaves.
+#![tactic(auto)]
+
 ghost use Rattle.std.specs.Prelude.{◌≡◌, length};
 ghost use Rattle.clear.specs.Zeros.{zeros};
 

@@ -1,4 +1,6 @@
 // Whether a netlist is written as a text: the text is walked piece by piece as writing would write it, with no second text.
+#![tactic(auto)]
+
 ghost use Rattle.std.specs.Prelude.{[], ◌∷◌, ◌+◌, ◌<◌, ◌≤◌, length};
 ghost use Rattle.rules.specs.Primitives.{primitive};
 ghost use Rattle.rules.specs.Netlist.{gates, inputs_at, WellFormed};
@@ -12,7 +14,7 @@ ghost use Rattle.compare.specs.Walk.{call_of, head_of};
 use rules::Gate;
 
 // A piece stands there, up to a place; or it does not.
-#[derive(Drop)]
+#[derive(Clone, Copy)]
 enum Seen {
     To(usize),
     Not,

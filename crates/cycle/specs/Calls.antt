@@ -12,11 +12,11 @@ use Rattle.rules.specs.Syntax.{Exp, Arg, Stmts, end, call, Block, Callee, gate, 
 use Rattle.rules.specs.Values.{Env, generics}
 use Rattle.rules.specs.Frames.{Frame as Names}
 use Rattle.rules.specs.Unfold.{Range, State, unfolds, tick, emit, enter, deep}
-use Rattle.rules.specs.Laws.Outcomes.{ok-inj, no_ok, inv}
-use Rattle.rules.specs.Laws.Order.{call-late, loop-late, block-deep}
-use Rattle.rules.specs.Laws.Scoped.{ports_of, names_of, ArgsOk, Wanted, by-gate, by-block, StmtsOk}
-use Rattle.rules.specs.Laws.Suits.{Suits, Sized, resolves-sized, ends-fit, entered-suits}
-use Rattle.rules.specs.Laws.Late.{nth-both}
+use Rattle.rules.proofs.Laws.Outcomes.{ok-inj, no_ok, inv}
+use Rattle.rules.proofs.Laws.Order.{call-late, loop-late, block-deep}
+use Rattle.rules.proofs.Laws.Scoped.{ports_of, names_of, ArgsOk, Wanted, by-gate, by-block, StmtsOk}
+use Rattle.rules.proofs.Laws.Suits.{Suits, Sized, resolves-sized, ends-fit, entered-suits}
+use Rattle.rules.proofs.Laws.Late.{nth-both}
 use Rattle.frames.specs.declared.Frame.{Frame}
 use Rattle.frames.specs.Stands.{Stands}
 use Rattle.frames.specs.Fresh.{up_to}

@@ -10,9 +10,9 @@ use Rattle.rules.specs.Syntax.{Exp, Stmts, end, loop, Callee, Program}
 use Rattle.rules.specs.Values.{Env, generics, bound, eval, rounds}
 use Rattle.rules.specs.Frames.{Frame as Names}
 use Rattle.rules.specs.Unfold.{Range, State, unfolds, tick, turns, deep}
-use Rattle.rules.specs.Laws.Order.{loop-rounds}
-use Rattle.rules.specs.Laws.Outcomes.{refused, went, along}
-use Rattle.rules.specs.Laws.Scoped.{ports_of, StmtsOk}
+use Rattle.rules.proofs.Laws.Order.{loop-rounds}
+use Rattle.rules.proofs.Laws.Outcomes.{refused, went, along}
+use Rattle.rules.proofs.Laws.Scoped.{ports_of, StmtsOk}
 use Rattle.tape.specs.Layout.{value_of}
 use Rattle.tape.specs.Encoding.{exp_w}
 use Rattle.tape.specs.Resolved.{slot_w}

@@ -8,9 +8,9 @@ use Rattle.rules.specs.Syntax.{Exp, Arg, Stmts, end, call, loop, Callee, gate, b
 use Rattle.rules.specs.Values.{Env}
 use Rattle.rules.specs.Frames.{Frame as Names}
 use Rattle.rules.specs.Unfold.{Range, State, Act, unfolds, tick, deep}
-use Rattle.rules.specs.Laws.Outcomes.{ok-inj, inv, refused, went, along}
-use Rattle.rules.specs.Laws.Scoped.{ports_of, StmtsOk}
-use Rattle.rules.specs.Laws.Suits.{Suits}
+use Rattle.rules.proofs.Laws.Outcomes.{ok-inj, inv, refused, went, along}
+use Rattle.rules.proofs.Laws.Scoped.{ports_of, StmtsOk}
+use Rattle.rules.proofs.Laws.Suits.{Suits}
 use Rattle.tape.specs.Encoding.{stmts_w}
 use Rattle.frames.specs.declared.Frame.{Frame}
 use Rattle.frames.specs.Stands.{Stands}

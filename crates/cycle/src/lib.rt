@@ -1,4 +1,6 @@
 // Statements, rounds and calls, which unfold each other.
+#![tactic(auto)]
+
 ghost use Rattle.std.specs.Prelude.{◌≡◌, ℕ, ◌+◌, ◌*◌, ◌-◌, ◌<◌, ◌≤◌, length, get_or, nat_abs};
 ghost use Rattle.rules.specs.Outcome.{ok};
 ghost use Rattle.rules.specs.Syntax.{Stmts, Callee, gate, block as numbered, Program};
@@ -16,7 +18,7 @@ use unfold::{Entry, Head};
 use values::Rounds;
 
 // The counts after an unfolding; or a refusal's number and place.
-#[derive(Drop)]
+#[derive(Clone, Copy)]
 pub enum Out {
     Done(Counts),
     No(usize, usize),

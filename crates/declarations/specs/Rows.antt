@@ -2,7 +2,7 @@
 use Rattle.std.specs.Prelude.{◌≡◌, refl, ℕ, suc, ◌+◌, List, [], ◌∷◌, ◌++◌, length}
 use Rattle.std.proofs.Common.{sym, ap, ◌∙◌, arith}
 use Rattle.rules.specs.Grammar.{declared, port, local}
-use Rattle.rules.specs.Laws.Enough.{enough}
+use Rattle.rules.proofs.Laws.Enough.{enough}
 use Rattle.tape.specs.Layout.{name_w}
 use Rattle.tape.specs.Encoding.{list_w, decl_w, generic_w}
 use Rattle.tape.specs.Written.{none}

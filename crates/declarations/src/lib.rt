@@ -1,4 +1,6 @@
 // What a block declares: generics, ports and VARs, onto the tape.
+#![tactic(auto)]
+
 ghost use Rattle.std.specs.Prelude.{◌≡◌, List, [], ◌∷◌, ℕ, ◌+◌, ◌≤◌, ◌<◌, length};
 ghost use Rattle.rules.specs.Syntax.{num};
 ghost use Rattle.rules.specs.Readers.{spelling, if_next, give, rest};

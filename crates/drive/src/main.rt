@@ -1,4 +1,6 @@
 // Every public function on any input, in memory of any length, for tools outside: commands from standard input, answers to standard output.
+#![tactic(auto)]
+
 mod input;
 mod output;
 
@@ -25,7 +27,7 @@ const OLD_WORD: u16 = 42405;
 const OLD_LONG: u32 = 3735928559;
 
 // The number and the length that an answer tells.
-#[derive(Drop)]
+#[derive(Clone, Copy)]
 struct Shown {
     number: usize,
     length: usize,

@@ -1,5 +1,7 @@
 // Expressions: their factors as words on the tape. Expression, term and factor call each other; the remaining level allowance falls at
 // every bracket and minus.
+#![tactic(auto)]
+
 ghost use Rattle.std.specs.Prelude.{◌≡◌, ◌+◌, ◌≤◌, ◌<◌, Bool, length};
 ghost use Rattle.rules.specs.Grammar.{is_product, chain, expression_of, factor as factor_at, expression as expression_at, bounds as bounds_at};
 ghost use Rattle.tape.specs.Layout.{flip, name_w};

@@ -11,10 +11,10 @@ use Rattle.rules.specs.Meaning.{Signal, dark, Allows, NetAllows}
 use Rattle.rules.specs.Run.{to_byte, from_byte, Inputs}
 use Rattle.rules.specs.Unfold.{Unfolded}
 use Rattle.rules.specs.Flatten.{program, flattened, answer, flatten}
-use Rattle.rules.specs.Demands
-use Rattle.rules.specs.Laws.Within.{Within, no}
-use Rattle.rules.specs.Laws.Late.{flattened-within}
-use Rattle.rules.specs.Laws.Ways.{way}
+use Rattle.rules.proofs.Demands
+use Rattle.rules.proofs.Laws.Within.{Within, no}
+use Rattle.rules.proofs.Laws.Late.{flattened-within}
+use Rattle.rules.proofs.Laws.Ways.{way}
 use Rattle.netlist.specs.Answers.{Told}
 use Rattle.run.specs.Ran.{Ran}
 use Rattle.run.specs.Follows.{Had, run-had, run-shows, shown-holds, the-outputs, one, no_other}

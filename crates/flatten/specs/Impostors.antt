@@ -12,8 +12,8 @@ use Rattle.rules.specs.Meaning.{Signal, dark, makes, GateHolds, carried, Allows,
 use Rattle.rules.specs.Run.{from_byte}
 use Rattle.rules.specs.Primitives.{primitive}
 use Rattle.rules.specs.Flatten.{Answer, program, flatten}
-use Rattle.rules.specs.Edges.{design, designed, twice}
-use Rattle.rules.specs.Laws.Rings.{choice}
+use Rattle.rules.proofs.Edges.{design, designed, twice}
+use Rattle.rules.proofs.Laws.Rings.{choice}
 use Rattle.clear.specs.Zeros.{zeros-at, zeros-long}
 use Rattle.netlist.specs.Answers.{Told}
 use Rattle.run.specs.Ran.{Ran}

@@ -5,7 +5,7 @@ use Rattle.rules.specs.declared.Gate.{Gate}
 use Rattle.rules.specs.Netlist.{inputs, outputs, gates, gate_at, inputs_at, records}
 use Rattle.rules.specs.Meaning.{Signal, makes, carried, GateHolds, NetAllows}
 use Rattle.rules.specs.Run.{Known, given, made, AllKnown, none, more, from_byte, Shown, settled, unsettled}
-use Rattle.rules.specs.Laws.Records.{same-gate}
+use Rattle.rules.proofs.Laws.Records.{same-gate}
 
 contents : (w : List ℕ) (i : ℕ) → i < 4 → get_or (records w) i 0 ≡ get_or w i 0
 unfolding records

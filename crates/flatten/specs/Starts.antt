@@ -11,11 +11,11 @@ use Rattle.rules.specs.Syntax.{Program}
 use Rattle.rules.specs.Netlist.{gates, gate_words, net_words, records}
 use Rattle.rules.specs.Unfold.{Unfolded, unfold_main}
 use Rattle.rules.specs.Flatten.{program, flattened, answer, flatten}
-use Rattle.rules.specs.Laws.Outcomes.{inv, ok-inj, bind_ok}
-use Rattle.rules.specs.Laws.Nets.{words-length}
-use Rattle.rules.specs.Laws.Within.{Within, no as refused, wider, within-next}
-use Rattle.rules.specs.Laws.Late.{program-within, text-within}
-use Rattle.rules.specs.Laws.Ways.{way}
+use Rattle.rules.proofs.Laws.Outcomes.{inv, ok-inj, bind_ok}
+use Rattle.rules.proofs.Laws.Nets.{words-length}
+use Rattle.rules.proofs.Laws.Within.{Within, no as refused, wider, within-next}
+use Rattle.rules.proofs.Laws.Late.{program-within, text-within}
+use Rattle.rules.proofs.Laws.Ways.{way}
 
 -- what a text gives, apart from all lengths
 unfoldable pub given : List ℕ → Out Unfolded

@@ -23,11 +23,11 @@ use Rattle.rules.specs.Run.{Known, given, made, none, more, to_byte, from_byte, 
 use Rattle.rules.specs.Flat.{flat_text}
 use Rattle.rules.specs.Flatten
 use Rattle.rules.specs.Flatten.{Answer, answer, flattened, flatten}
-use Rattle.rules.specs.Edges
-use Rattle.rules.specs.Edges.{of, design, designed, twice, full, over, edges}
-use Rattle.rules.specs.Laws.Bytes.{byte-below}
-use Rattle.rules.specs.Laws.Records.{flat-same}
-use Rattle.rules.specs.Laws.Rings.{ring, choice}
+use Rattle.rules.proofs.Edges
+use Rattle.rules.proofs.Edges.{of, design, designed, twice, full, over, edges}
+use Rattle.rules.proofs.Laws.Bytes.{byte-below}
+use Rattle.rules.proofs.Laws.Records.{flat-same}
+use Rattle.rules.proofs.Laws.Rings.{ring, choice}
 use Rattle.netlist.specs.Answers.{Told, done}
 use Rattle.run.specs.Ran.{Ran}
 use Rattle.run.specs.Known.{shown-one}

@@ -9,7 +9,7 @@ use Rattle.rules.specs.Grammar.{grammar}
 use Rattle.rules.specs.Resolve.{names}
 use Rattle.rules.specs.Unfold.{Unfolded, unfold_main}
 use Rattle.rules.specs.Flatten.{program, flattened, answer, flatten}
-use Rattle.rules.specs.Laws.Outcomes.{inv}
+use Rattle.rules.proofs.Laws.Outcomes.{inv}
 use Rattle.tape.specs.declared.Read.{Read}
 use Rattle.tape.specs.declared.Read.TheVariants.{Done, No}
 use Rattle.grammar.specs.Promise.{read_text, Stands, Reads}

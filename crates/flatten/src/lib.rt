@@ -1,4 +1,6 @@
 // Pebble text to a netlist.
+#![tactic(auto)]
+
 ghost use Rattle.std.specs.Prelude.{◌≡◌, List, ℕ, ◌≤◌, length};
 ghost use Rattle.rules.specs.Text.{zeros};
 ghost use Rattle.rules.specs.Outcome.{ok};
@@ -17,7 +19,7 @@ use tape::Read;
 use unfolding::Unfolded;
 
 // Number, place and steps of an answer.
-#[derive(Drop)]
+#[derive(Clone, Copy)]
 pub struct Flattened {
     pub number: usize,
     pub place: usize,

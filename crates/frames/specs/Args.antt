@@ -6,7 +6,7 @@ use Rattle.rules.specs.Syntax.{Exp, Arg, whole, part, Callee}
 use Rattle.rules.specs.Values.{Env, generics, eval}
 use Rattle.rules.specs.Frames.{Cells, Sig, Frame as Names, offset, resolve}
 use Rattle.rules.specs.Unfold.{Range, Wires}
-use Rattle.rules.specs.Laws.Spelt.{AllExp, AllArg}
+use Rattle.rules.proofs.Laws.Spelt.{AllExp, AllArg}
 use Rattle.tape.specs.Layout.{pack, kind_of, head_in, value_of, kind-of, head-of, value-of}
 use Rattle.tape.specs.Encoding.{exp_w, arg_w}
 use Rattle.tape.specs.Resolved.{slot_w}

@@ -9,7 +9,7 @@ use Rattle.rules.specs.Syntax.{Sort, wire, vector, num, Decl}
 use Rattle.rules.specs.Values.{Env, Shape, shape}
 use Rattle.rules.specs.Frames.{Sig, Frame as Names}
 use Rattle.rules.specs.Unfold.{Range, State, declare}
-use Rattle.rules.specs.Laws.Spelt.{All}
+use Rattle.rules.proofs.Laws.Spelt.{All}
 use Rattle.tape.specs.Layout.{pack, value_of, value-of, name_w}
 use Rattle.tape.specs.Encoding.{list_w, sort_w, decl_w}
 use Rattle.tape.specs.Resolved.{slot_w}

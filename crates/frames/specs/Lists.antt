@@ -8,7 +8,7 @@ use Rattle.rules.specs.Syntax.{Exp, Arg, whole, part}
 use Rattle.rules.specs.Values.{Env, generics, eval, evals}
 use Rattle.rules.specs.Frames.{Frame as Names, resolve, resolves}
 use Rattle.rules.specs.Unfold.{Range, Wires}
-use Rattle.rules.specs.Laws.Spelt.{All, AllArg}
+use Rattle.rules.proofs.Laws.Spelt.{All, AllArg}
 use Rattle.tape.specs.Layout.{pack, kind_of, kind-of}
 use Rattle.tape.specs.Encoding.{exp_w, list_w, arg_w}
 use Rattle.tape.specs.Resolved.{slot_w}

@@ -8,7 +8,7 @@ use Rattle.rules.specs.Syntax.{Sort, wire, vector, num, Decl}
 use Rattle.rules.specs.Values.{Env, Shape, shape}
 use Rattle.rules.specs.Frames.{Sig, Frame as Names, tie}
 use Rattle.rules.specs.Unfold.{Range, Wires}
-use Rattle.rules.specs.Laws.Spelt.{All}
+use Rattle.rules.proofs.Laws.Spelt.{All}
 use Rattle.tape.specs.Layout.{pack, kind_of, kind-of, name_w}
 use Rattle.tape.specs.Encoding.{list_w, sort_w, decl_w}
 use Rattle.tape.specs.Resolved.{slot_w}

@@ -7,7 +7,7 @@ use Rattle.std.proofs.Math.Bool.{true, false}
 use mathlib.Core.List.{List, [], ◌∷◌, ◌++◌}
 use Rattle.std.proofs.Math.ListN.{length, length-append}
 use borrow.Author.Tests.{lt-ltb, le-leb}
-use Rattle.rules.specs.Laws.Spelt.{All}
+use Rattle.rules.proofs.Laws.Spelt.{All}
 use Rattle.tape.specs.Layout.{kind_of}
 use Rattle.tape.specs.Encoding.{list_w}
 use Rattle.tape.specs.Lies.{Lies, lies-left, lies-right}

@@ -4,7 +4,7 @@ use Rattle.std.proofs.Common.{sym, ◌∙◌, arith, append_assoc, append-nil}
 use Rattle.std.proofs.Math.Path.{ap, subst}
 use Rattle.std.proofs.Math.ListN.{length, length-append}
 use Rattle.rules.specs.Outcome.{Out, ok, refuse, ◌>>=◌}
-use Rattle.rules.specs.Laws.Spelt.{All}
+use Rattle.rules.proofs.Laws.Spelt.{All}
 use Rattle.tape.specs.Encoding.{list_w}
 use Rattle.frames.specs.Rows.{among_of, Alone, Listed, Cons, Starts, starting, rest, alone, more, no_more}
 

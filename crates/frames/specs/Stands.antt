@@ -7,7 +7,7 @@ use Rattle.rules.specs.Syntax.{Exp, number, name, neg, group, both, Sort, wire, 
 use Rattle.rules.specs.Values.{Env, generics, bound, ranged, apply, eval, shape, width}
 use Rattle.rules.specs.Frames.{Sig, Frame as Names}
 use Rattle.rules.specs.Unfold.{Range}
-use Rattle.rules.specs.Laws.Spelt.{AllExp, AllSort}
+use Rattle.rules.proofs.Laws.Spelt.{AllExp, AllSort}
 use Rattle.values.specs.Factors.{Grouped}
 use Rattle.values.specs.Sizes.{GroupedSort}
 use Rattle.frames.specs.declared.Frame.{Frame}

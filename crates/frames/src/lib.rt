@@ -1,4 +1,6 @@
 // What the names of one use of a block stand for: wires, and values.
+#![tactic(auto)]
+
 ghost use Rattle.std.specs.Prelude.{◌≡◌, ℕ, ◌+◌, ◌*◌, ◌-◌, ◌<◌, ◌≤◌, List, ◌++◌, length, get_or, set};
 ghost use Rattle.rules.specs.Syntax.{Exp, Arg, Decl};
 ghost use Rattle.rules.specs.Values.{Env, evals, bound};
@@ -18,7 +20,7 @@ use tape::Kind;
 use values::{Apart, Size, Value};
 
 // Each name's lowest wire, how many it has, and the index of the lowest; the value of each generic and of each loop's index.
-#[derive(Drop)]
+#[derive(Clone, Copy)]
 pub struct Frame {
     pub base: [u16; 48],
     pub len: [u16; 48],
@@ -27,21 +29,21 @@ pub struct Frame {
 }
 
 // The wires of an argument, lowest first, how many they are, and the place after its words; or the number of a refusal.
-#[derive(Drop)]
+#[derive(Clone, Copy)]
 pub enum Found {
     At(usize, usize, usize),
     Wrong(usize),
 }
 
 // How many places are filled, and the place after the words of all that was read; or the number of a refusal.
-#[derive(Drop)]
+#[derive(Clone, Copy)]
 pub enum Many {
     Done(usize, usize),
     Wrong(usize),
 }
 
 // How many places are filled, the next wire, and the place after the words of all that was read; or a refusal's number and place.
-#[derive(Drop)]
+#[derive(Clone, Copy)]
 pub enum Fresh {
     Done(usize, usize, usize),
     Wrong(usize, usize),

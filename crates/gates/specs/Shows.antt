@@ -11,7 +11,7 @@ use Rattle.rules.specs.Outcome.{Out, ok, refuse, ◌>>=◌, need}
 use Rattle.rules.specs.Primitives.{inputs_of, primitive}
 use Rattle.rules.specs.Netlist.{unused, gate_words}
 use Rattle.rules.specs.Unfold.{State, tick, emit, driven, gate_on}
-use Rattle.rules.specs.Laws.Order.{step-late}
+use Rattle.rules.proofs.Laws.Order.{step-late}
 use Rattle.frames.specs.Laid.{laid, column, laid-append, laid-length}
 use Rattle.gates.specs.declared.Counts.{Counts}
 use Rattle.gates.specs.declared.Step.{Step}

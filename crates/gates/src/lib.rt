@@ -1,4 +1,6 @@
 // Steps, gates, and the wires that are driven.
+#![tactic(auto)]
+
 ghost use Rattle.std.specs.Prelude.{◌≡◌, ℕ, ◌+◌, ◌*◌, ◌-◌, ◌<◌, ◌≤◌, Bool, true, false, List, length, get_or, set};
 ghost use Rattle.rules.specs.Primitives.{inputs_of};
 ghost use Rattle.rules.specs.Unfold.{State, tick, emit, gate_on};
@@ -8,7 +10,7 @@ ghost use Rattle.gates.specs.Shows.{Shows, Gives, Held, words_of, full_of, taken
 use rules::Gate;
 
 // The next wire's number, the steps so far, and how many gates there are.
-#[derive(Drop)]
+#[derive(Clone, Copy)]
 pub struct Counts {
     pub wires: usize,
     pub steps: usize,
@@ -16,7 +18,7 @@ pub struct Counts {
 }
 
 // The counts after a step; or the number of a refusal.
-#[derive(Drop)]
+#[derive(Clone, Copy)]
 pub enum Step {
     Done(Counts),
     Wrong(usize),

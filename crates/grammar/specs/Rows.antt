@@ -1,7 +1,7 @@
 -- The list of blocks, and their words. Assumes nothing.
 use Rattle.std.specs.Prelude.{ℕ, List, [], ◌∷◌, ◌++◌}
 use Rattle.rules.specs.Grammar.{a_block}
-use Rattle.rules.specs.Laws.Enough.{enough}
+use Rattle.rules.proofs.Laws.Enough.{enough}
 use Rattle.tape.specs.Layout.{name_w}
 use Rattle.tape.specs.Encoding.{list_w, block_w, callee_w}
 use Rattle.tape.specs.Written.{none}

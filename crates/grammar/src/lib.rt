@@ -1,4 +1,6 @@
 // Blocks and whole texts, onto the tape: one pass over the text from its front.
+#![tactic(auto)]
+
 ghost use Rattle.std.specs.Prelude.{◌≡◌, List, [], ◌∷◌, ℕ, ◌+◌, ◌≤◌, ◌<◌, length};
 ghost use Rattle.rules.specs.Readers.{rest};
 ghost use Rattle.rules.specs.Grammar.{a_block, blocks as blocks_at};

@@ -1,5 +1,7 @@
 // The headings of a tape's blocks, gathered into rows; what a call wants by them, and what it gives, in number.
 // Cost: gathering passes over the tape once for each row; a heading is at most 48 words; a call's words are passed three times.
+#![tactic(auto)]
+
 ghost use Rattle.std.specs.Prelude.{◌≡◌, ◌<◌, ◌≤◌, length, take, drop, get_or, set, eqb, ltb};
 ghost use Rattle.rules.specs.Text.{pick};
 ghost use Rattle.rules.specs.Primitives.{inputs_of};

@@ -1,4 +1,6 @@
 // One word of a text, where a certain one is wanted.
+#![tactic(auto)]
+
 ghost use Rattle.std.specs.Prelude.{◌≡◌, ℕ, ◌+◌, ◌≤◌, ◌<◌, length};
 ghost use Rattle.rules.specs.Words.{word_at};
 ghost use Rattle.rules.specs.Readers.{spelling, a_name};
@@ -11,7 +13,7 @@ use rules::Word;
 use tape::Read;
 
 // Marks by their bytes, reserved words by their numbers, the end of the text by 0: as `key` of the rules has them.
-#[derive(Drop)]
+#[derive(Clone, Copy)]
 pub struct Key(pub usize);
 
 impl Key {
@@ -64,7 +66,7 @@ impl Key {
 
 // What stands after an item of a list: the mark that divides (where it ends, its place), the mark that closes (where it ends), or a
 // refusal's number and place.
-#[derive(Drop)]
+#[derive(Clone, Copy)]
 pub enum Divided {
     Another(usize, usize),
     Last(usize),

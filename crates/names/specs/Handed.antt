@@ -5,8 +5,8 @@ use Rattle.std.proofs.Math.ListN.{get_or-append}
 use Rattle.rules.specs.Outcome.{Out, ok, ◌>>=◌, need}
 use Rattle.rules.specs.Syntax.{Spelled}
 use Rattle.rules.specs.Grammar.{grammar}
-use Rattle.rules.specs.Laws.Outcomes.{inv, need-yes}
-use Rattle.rules.specs.Laws.Numbered.{spelled-text}
+use Rattle.rules.proofs.Laws.Outcomes.{inv, need-yes}
+use Rattle.rules.proofs.Laws.Numbered.{spelled-text}
 use Rattle.tape.specs.Encoding.{tape_of}
 use Rattle.tape.specs.Lies.{Lies, lies-front}
 use Rattle.sweep.specs.Resolves.{Holds}

@@ -1,6 +1,8 @@
 // Names: answers 6 to 9 (01, "Numbers of the answers"), and every name of a tape becomes the number of its declaration.
 // Cost: a name is compared with at most 48 declared ones, and a block's or a call's name with at most 10 primitives and 64 blocks;
 // a call's words are looked at three times more, and its heading's at most 48 words once.
+#![tactic(auto)]
+
 ghost use Rattle.std.specs.Prelude.{◌≡◌, ◌||◌, List, ℕ, ◌+◌, ◌<◌, ◌≤◌, max, length, take, drop, get_or, set, replicate, eqb};
 ghost use Rattle.rules.specs.Syntax.{Spelled};
 ghost use Rattle.sweep.specs.Resolves.{Holds, Readable, Resolves};

@@ -13,7 +13,7 @@ use borrow.Author.Count.{below_more}
 use Rattle.rules.specs.declared.Gate.{Gate}
 use Rattle.rules.specs.Netlist.{inputs, wires, gates, gate_at, Fine}
 use Rattle.rules.specs.Flat.{decimal}
-use Rattle.rules.specs.Laws.FlatOne.{decimal-1, decimal-2, decimal-3, decimal-4}
+use Rattle.rules.proofs.Laws.FlatOne.{decimal-1, decimal-2, decimal-3, decimal-4}
 use Rattle.netlist.specs.Decides.{Decides, so, not_so, holds, fails}
 use Rattle.netlist.specs.Parts.{Body}
 

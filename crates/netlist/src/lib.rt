@@ -1,4 +1,6 @@
 // The words of a netlist, when they are well formed, how a wire is numbered, and the answers of the jobs on netlists.
+#![tactic(auto)]
+
 ghost use Rattle.std.specs.Prelude.{◌≡◌, ◌++◌, ◌+◌, ◌-◌, ◌<◌, length, get_or, replicate};
 ghost use Rattle.rules.specs.Flat.{decimal};
 ghost use Rattle.rules.specs.Netlist.{gate_at, Slot, Fine};
@@ -9,7 +11,7 @@ ghost use Rattle.netlist.specs.Parts.{Head, Body};
 use rules::Gate;
 
 // What running, writing and reading answer. `told` in specs/ gives each its number and values.
-#[derive(Drop)]
+#[derive(Clone, Copy)]
 pub enum Answer {
     Done,
     // The text is written, and has so many bytes.
@@ -54,7 +56,7 @@ pub fn gate_at(words: &[u16], i: u16) -> Gate
 }
 
 // A number as its digits: so many, then zeros.
-#[derive(Drop)]
+#[derive(Clone, Copy)]
 pub struct Digits {
     pub digits: [u8; 4],
     pub length: usize,

@@ -4,8 +4,8 @@ use Rattle.std.proofs.Common.{ap, ◌∙◌}
 use Rattle.rules.specs.Text.{bytes, joined, pick, zeros}
 use Rattle.rules.specs.Netlist.{records}
 use Rattle.rules.specs.Flatten.{answer, flatten}
-use Rattle.rules.specs.Edges.{design, designed, edges}
-use Rattle.rules.specs.Laws.Records.{flat-same}
+use Rattle.rules.proofs.Edges.{design, designed, edges}
+use Rattle.rules.proofs.Laws.Records.{flat-same}
 use Rattle.pebble.specs.Decimal.{spelled, decimal}
 use Rattle.pebble.specs.Printed.{refused_text, shown, printed}
 

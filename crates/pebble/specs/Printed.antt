@@ -6,7 +6,7 @@ use Rattle.rules.specs.Text.{bytes, joined, pick}
 use Rattle.rules.specs.Netlist.{WellFormed}
 use Rattle.rules.specs.Flat.{flat_text}
 use Rattle.rules.specs.Flatten.{Answer, flatten}
-use Rattle.rules.specs.Demands.{well-formed}
+use Rattle.rules.proofs.Demands.{well-formed}
 use Rattle.pebble.specs.Decimal.{decimal}
 
 -- "one line `refused N P` (number, place)"

@@ -1,4 +1,6 @@
 // The program: reads Pebble text from standard input, flattens it, and prints the flat text or one line `refused N P`.
+#![tactic(auto)]
+
 ghost use Rattle.std.specs.Prelude.{◌+◌, ◌-◌, ◌≤◌, ◌≡◌, length, take};
 ghost use Rattle.io.specs.Counts.{IsPrefixLen};
 ghost use Rattle.write.specs.Put.{Put};
@@ -59,7 +61,7 @@ fn print(text: &[u8], out: &mut [u8; 65536]) -> usize
 }
 
 // What reading brought: so many bytes, or a failure of the system.
-#[derive(Drop)]
+#[derive(Clone, Copy)]
 enum Came {
     Bytes(usize),
     Failed,

@@ -5,7 +5,7 @@ use native.Mathlib.Omega.{arith}
 use Rattle.std.proofs.Math.Decide.{dec_lt}
 use Rattle.std.proofs.Math.ListN.{length-append}
 use Rattle.rules.specs.Syntax.{Name, Sort, wire, vector, num, Decl, Block, Callee}
-use Rattle.rules.specs.Laws.Spelt.{All, AllSort}
+use Rattle.rules.proofs.Laws.Spelt.{All, AllSort}
 use Rattle.tape.specs.Layout.{pack, kind_of, value_of, kind-of, name_w}
 use Rattle.tape.specs.Encoding.{exp_w, list_w, sort_w, decl_w, generic_w, block_w}
 use Rattle.tape.specs.Resolved.{slot_w, meant_w}

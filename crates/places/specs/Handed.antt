@@ -8,9 +8,9 @@ use Rattle.rules.specs.Syntax.{Spelled, Program}
 use Rattle.rules.specs.Grammar.{grammar}
 use Rattle.rules.specs.Resolve.{names}
 use Rattle.rules.specs.Flatten.{program}
-use Rattle.rules.specs.Laws.Outcomes.{bind_ok}
-use Rattle.rules.specs.Laws.Numbered.{numbered-text}
-use Rattle.rules.specs.Laws.Scoped.{names-scoped}
+use Rattle.rules.proofs.Laws.Outcomes.{bind_ok}
+use Rattle.rules.proofs.Laws.Numbered.{numbered-text}
+use Rattle.rules.proofs.Laws.Scoped.{names-scoped}
 use Rattle.tape.specs.Resolved.{resolved_tape}
 use Rattle.tape.specs.Written.{put_is}
 use Rattle.tape.specs.Lies.{Lies, lies-front}

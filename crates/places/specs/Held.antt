@@ -1,9 +1,9 @@
 -- A resolved program on the tape. Assumes nothing.
 use Rattle.std.specs.Prelude.{◌≡◌, ℕ, ◌≤◌, List, length}
 use Rattle.rules.specs.Syntax.{Program}
-use Rattle.rules.specs.Laws.Spelt.{All}
-use Rattle.rules.specs.Laws.Numbered.{NumberedBlock}
-use Rattle.rules.specs.Laws.Scoped.{Scoped}
+use Rattle.rules.proofs.Laws.Spelt.{All}
+use Rattle.rules.proofs.Laws.Numbered.{NumberedBlock}
+use Rattle.rules.proofs.Laws.Scoped.{Scoped}
 use Rattle.tape.specs.Resolved.{resolved_tape}
 use Rattle.tape.specs.Lies.{Lies}
 

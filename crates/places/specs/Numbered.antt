@@ -3,8 +3,8 @@ use Rattle.std.specs.Prelude.{refl, ℕ, ◌+◌, ◌≤◌, ◌<◌, length}
 use Rattle.std.proofs.Common.{arith}
 use mathlib.Core.List.{List, [], ◌∷◌}
 use Rattle.rules.specs.Syntax.{Name, Sort, wire, vector, num, Decl, Block, Callee}
-use Rattle.rules.specs.Laws.Spelt.{SpeltName, All, AllSort, AllDecl}
-use Rattle.rules.specs.Laws.Numbered.{Slot, CalleeOf, NumberedBlock}
+use Rattle.rules.proofs.Laws.Spelt.{SpeltName, All, AllSort, AllDecl}
+use Rattle.rules.proofs.Laws.Numbered.{Slot, CalleeOf, NumberedBlock}
 use Rattle.tape.specs.Layout.{name_w}
 use Rattle.tape.specs.Encoding.{block_w}
 use Rattle.tape.specs.Resolved.{slot_w, meant_w}

@@ -7,10 +7,10 @@ use mathlib.Core.List.{List, [], ◌∷◌}
 use Rattle.std.proofs.Math.ListN.{length, length-append, get_or-append}
 use Rattle.rules.specs.Outcome.{ok, nth}
 use Rattle.rules.specs.Syntax.{Block, Callee, Program}
-use Rattle.rules.specs.Laws.Outcomes.{no_ok, ok-inj}
-use Rattle.rules.specs.Laws.Spelt.{All}
-use Rattle.rules.specs.Laws.Numbered.{NumberedBlock}
-use Rattle.rules.specs.Laws.Scoped.{nth-below}
+use Rattle.rules.proofs.Laws.Outcomes.{no_ok, ok-inj}
+use Rattle.rules.proofs.Laws.Spelt.{All}
+use Rattle.rules.proofs.Laws.Numbered.{NumberedBlock}
+use Rattle.rules.proofs.Laws.Scoped.{nth-below}
 use Rattle.tape.specs.Encoding.{list_w, block_w}
 use Rattle.tape.specs.Resolved.{slot_w, meant_w}
 use Rattle.tape.specs.Lies.{Lies, lies-left, lies-right}

@@ -1,4 +1,6 @@
 // Where each block of a resolved program begins on the tape.
+#![tactic(auto)]
+
 ghost use Rattle.std.specs.Prelude.{◌≡◌, ℕ, ◌+◌, List, length};
 ghost use Rattle.rules.specs.Syntax.{Block, Callee, Program};
 ghost use Rattle.tape.specs.Encoding.{block_w};

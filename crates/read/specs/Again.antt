@@ -7,7 +7,7 @@ use Rattle.std.proofs.Math.ListN.{get_or, take, get_or-append}
 use Rattle.std.proofs.Math.Seq.{get_or-take, take_at}
 use Rattle.rules.specs.Netlist.{gates, WellFormed, records}
 use Rattle.rules.specs.Flat.{flat_text}
-use Rattle.rules.specs.Laws.Records.{well-same, flat-same}
+use Rattle.rules.proofs.Laws.Records.{well-same, flat-same}
 
 records-length : (w : List ℕ) → WellFormed w → length (records w) ≡ 4 + 5 * gates w
 unfolding records

@@ -9,7 +9,7 @@ use Rattle.rules.specs.Text.{bytes, joined}
 use Rattle.rules.specs.Primitives.{primitive, inputs_of}
 use Rattle.rules.specs.Netlist.{Slot, Fine}
 use Rattle.rules.specs.Flat.{decimal, between, wire_text, gate_text}
-use Rattle.rules.specs.Laws.FlatOne.{tens-4, decimal-1, decimal-2, decimal-3, decimal-4, name-one}
+use Rattle.rules.proofs.Laws.FlatOne.{tens-4, decimal-1, decimal-2, decimal-3, decimal-4, name-one}
 use Rattle.write.specs.Put.{joined-append}
 use Rattle.write.specs.Pieces.{between_none, between-some, slot_text, slot-used, slot-free, slots_of, slots-of, gate_of, gate-of}
 use Rattle.compare.specs.Match.{Starts}

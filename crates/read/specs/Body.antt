@@ -12,7 +12,7 @@ use Rattle.rules.specs.declared.Gate.{Gate}
 use Rattle.rules.specs.Text.{bytes, joined}
 use Rattle.rules.specs.Netlist.{inputs, outputs, wires, gates, gate_at, Fine, WellFormed, records}
 use Rattle.rules.specs.Flat.{ports_text, vars_text, gate_text, gates_text, flat_text}
-use Rattle.rules.specs.Laws.FlatOne.{gate-first}
+use Rattle.rules.proofs.Laws.FlatOne.{gate-first}
 use Rattle.write.specs.Put.{Put, put-none, put_then, put_is}
 use Rattle.write.specs.Pieces.{gates-open, gates-close, fine-as, parts, parts-of}
 use Rattle.read.specs.Ahead.{Ahead, room, pass, here, apart}

@@ -3,7 +3,7 @@ use Rattle.std.specs.Prelude.{◌≡◌, refl, List, ◌++◌, ℕ, ◌-◌, ◌
 use Rattle.std.proofs.Common.{sym, ap, ◌∙◌, arith}
 use Rattle.rules.specs.Netlist.{WellFormed, records}
 use Rattle.rules.specs.Flat.{flat_text}
-use Rattle.rules.specs.Laws.FlatOne.{flat-one}
+use Rattle.rules.proofs.Laws.FlatOne.{flat-one}
 use Rattle.clear.specs.Zeros.{zeros}
 use Rattle.netlist.specs.Answers.{Told, done, refused}
 

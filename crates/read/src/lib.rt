@@ -1,4 +1,6 @@
 // A flat text as a netlist: the netlist that the text would be written from is found with no test, and then its text is compared.
+#![tactic(auto)]
+
 ghost use Rattle.std.specs.Prelude.{◌≡◌, List, [], ◌∷◌, ℕ, ◌+◌, ◌-◌, ◌*◌, ◌<◌, ◌≤◌, length, get_or};
 ghost use Rattle.std.proofs.lemmas.List.Edits.{sets};
 ghost use Rattle.rules.specs.Primitives.{primitive};
@@ -127,7 +129,7 @@ fn width(n: u16) -> usize
 }
 
 // A number and the place after it.
-#[derive(Drop)]
+#[derive(Clone, Copy)]
 struct Part {
     pub value: u16,
     pub next: usize,
@@ -183,7 +185,7 @@ fn kind_at(text: &[u8], at: usize) -> u16
 }
 
 // How many, and the place after them.
-#[derive(Drop)]
+#[derive(Clone, Copy)]
 struct Count {
     pub count: u16,
     pub next: usize,
@@ -228,7 +230,7 @@ fn read_vars(text: &[u8], at: usize, s: u16) -> Count
 }
 
 // A gate, and the place after it.
-#[derive(Drop)]
+#[derive(Clone, Copy)]
 struct Found {
     pub gate: Gate,
     pub next: usize,

@@ -1,1 +1,4 @@
 pub mod Made
+pub mod Laws
+pub mod Demands
+pub mod Edges

@@ -1,10 +1,10 @@
 -- What the names of one use of a block stand for. Written once, over any cells: wires for the unfolding, bits for the meaning.
 -- Assumes nothing.
-use Rattle.std.specs.Prelude.{ℕ, suc, Bool, true, false, ◌&&◌, List, [], ◌∷◌, ◌++◌, map, length, ltb, eqb, ℤ, pos, negsuc, ◌-ℤ◌}
+use Rattle.std.specs.Prelude.{ℕ, suc, Bool, true, ◌&&◌, List, [], ◌∷◌, map, length, ltb, eqb, ℤ, pos, negsuc, ◌-ℤ◌}
 use Rattle.rules.specs.Outcome.{Out, ok, refuse, ◌>>=◌, need, nth}
 use Rattle.rules.specs.Primitives.{table, inputs_of}
 use Rattle.rules.specs.Syntax.{Name, Arg, whole, part, Decl}
-use Rattle.rules.specs.Values.{Env, eval, Shape, shape}
+use Rattle.rules.specs.Values.{Env, eval, shape}
 
 -- Cells of a kind A: how many an A holds, the one at a place, alone, counted from the lowest, and no cells at all.
 pub record Cells (A : Type 0) : Type 0 where

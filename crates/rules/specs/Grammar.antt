@@ -1,13 +1,13 @@
 -- 01, "Words and order of words": from the words of a text to its program, or 3, 4, 5 at the first word that is wrong.
 -- Assumes nothing.
-use Rattle.std.specs.Prelude.{ℕ, zero, suc, ◌+◌, Bool, true, false, ◌||◌, List, [], ◌∷◌, length, ltb, eqb}
+use Rattle.std.specs.Prelude.{ℕ, zero, suc, ◌+◌, Bool, ◌||◌, List, [], ◌∷◌, length, ltb, eqb}
 use Rattle.rules.specs.declared.Word.{Word}
 use Rattle.rules.specs.declared.Word.TheVariants.{Bad, Name as Named, Number, Mark}
 use Rattle.rules.specs.Text.{pick}
 use Rattle.rules.specs.Outcome.{Out, ok, refuse, ◌>>=◌ as ◌and-then◌}
 use Rattle.rules.specs.Words.{word_at, key}
 use Rattle.rules.specs.Syntax.{Name, Op, plus, minus, times, Exp, number, name, neg, group, both, Sort, wire, vector, num, Arg, whole, part, Stmts, end, call, loop, before, Decl, Block, Spelled}
-use Rattle.rules.specs.Readers.{Reader, ◌>>=◌, give, refused, marked, spelling, named, mark, a_name, if_next, rest, some, any}
+use Rattle.rules.specs.Readers.{Reader, ◌>>=◌, give, refused, spelling, mark, a_name, if_next, rest, some, any}
 
 abbrev pub Expr : Type 0
 Expr = Exp Name

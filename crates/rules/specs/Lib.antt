@@ -15,6 +15,3 @@ pub mod Meaning
 pub mod Run
 pub mod Flat
 pub mod Flatten
-pub mod Laws
-pub mod Demands
-pub mod Edges

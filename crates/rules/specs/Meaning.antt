@@ -1,14 +1,14 @@
 -- 01, "Meaning": which bits a program allows on main's ports, and which a netlist allows. A program's meaning speaks of names and uses:
 -- no wire has a number in it. Assumes nothing.
-use Rattle.std.specs.Prelude.{◌≡◌, ℕ, zero, suc, ◌+◌, ◌<◌, Bool, true, false, List, [], ◌∷◌, ◌++◌, map, length, get_or, take, ℤ, ◌-ℤ◌}
+use Rattle.std.specs.Prelude.{◌≡◌, ℕ, zero, suc, ◌+◌, ◌<◌, Bool, false, List, [], ◌∷◌, ◌++◌, map, length, get_or, take, ℤ, ◌-ℤ◌}
 use Rattle.std.proofs.Math.IntN.{suc_ℤ}
 use Rattle.rules.specs.declared.Gate.{Gate}
 use Rattle.rules.specs.Text.{joined}
-use Rattle.rules.specs.Outcome.{Out, ok, When, nth}
+use Rattle.rules.specs.Outcome.{When, nth}
 use Rattle.rules.specs.Primitives.{primitive, inputs_of}
 use Rattle.rules.specs.Syntax.{Stmts, end, call, loop, Decl, Block, Callee, gate, block, Program}
-use Rattle.rules.specs.Values.{Env, generics, bound, eval, evals, rounds, Shape, shape}
-use Rattle.rules.specs.Frames.{Cells, Sig, Frame, blanks, resolves, tie, ends}
+use Rattle.rules.specs.Values.{Env, generics, bound, eval, evals, rounds, shape}
+use Rattle.rules.specs.Frames.{Cells, Frame, blanks, resolves, tie, ends}
 use Rattle.rules.specs.Netlist.{inputs, outputs, gates, gate_at, inputs_at}
 
 -- ---- what a wire carries. Nothing below but these three knows that it is a bit

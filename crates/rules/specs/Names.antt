@@ -1,5 +1,5 @@
 -- 01, refusals 6 to 8: what a name means inside its block, in expressions and as an argument. Assumes nothing.
-use Rattle.std.specs.Prelude.{ℕ, Bool, true, false, not, ◌||◌, List, [], ◌∷◌, ◌++◌, map, length, get_or, eqb}
+use Rattle.std.specs.Prelude.{ℕ, Bool, true, false, not, ◌||◌, List, [], ◌∷◌, ◌++◌, map, get_or, eqb}
 use Rattle.rules.specs.Text.{pick, index_of, is_in}
 use Rattle.rules.specs.Outcome.{Out, ok, refuse, ◌>>=◌, need_at}
 use Rattle.rules.specs.Syntax.{Name, Exp, number, name, neg, group, both, Sort, wire, vector, num, Arg, whole, part, Decl}

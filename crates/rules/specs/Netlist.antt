@@ -1,5 +1,5 @@
 -- 01, "Unfolding": the words of a netlist, and when they are well formed. Assumes nothing.
-use Rattle.std.specs.Prelude.{◌≡◌, List, [], ◌∷◌, ◌++◌, ℕ, ◌+◌, ◌*◌, ◌≤◌, ◌<◌, length, get_or, take}
+use Rattle.std.specs.Prelude.{◌≡◌, List, [], ◌∷◌, ℕ, ◌+◌, ◌*◌, ◌≤◌, ◌<◌, length, get_or, take}
 use Rattle.rules.specs.Primitives.{inputs_of}
 use Rattle.rules.specs.declared.Gate.{Gate}
 

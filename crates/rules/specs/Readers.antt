@@ -1,5 +1,5 @@
 -- Readers: what reads a part of a text. A reader takes a place to what it reads there and the place after it, or refuses. Assumes nothing.
-use Rattle.std.specs.Prelude.{ℕ, zero, suc, ◌-◌, Bool, true, false, List, [], ◌∷◌, length, take, drop, eqb}
+use Rattle.std.specs.Prelude.{ℕ, zero, suc, ◌-◌, Bool, false, List, length, take, drop, eqb}
 use Prim.Native.String.{String}
 use Rattle.rules.specs.declared.Word.{Word}
 use Rattle.rules.specs.declared.Word.TheVariants.{Bad, Name as Named, Number, Mark}

@@ -1,8 +1,8 @@
 -- 01, refusals 6 to 9: every name of a text is checked, block by block and by byte, and becomes the number of its declaration.
 -- Assumes nothing.
-use Rattle.std.specs.Prelude.{ℕ, Bool, true, false, not, ◌&&◌, List, [], ◌∷◌, ◌++◌, map, length, replicate, eqb}
+use Rattle.std.specs.Prelude.{ℕ, not, ◌&&◌, List, [], ◌∷◌, ◌++◌, map, length, replicate, eqb}
 use Rattle.rules.specs.Text.{bytes, pick, index_of, is_in}
-use Rattle.rules.specs.Outcome.{Out, ok, refuse, ◌>>=◌, at, need_at, nth}
+use Rattle.rules.specs.Outcome.{Out, ok, ◌>>=◌, at, need_at, nth}
 use Rattle.rules.specs.Primitives.{inputs_of, primitive_names}
 use Rattle.rules.specs.Syntax.{Name, Sort, wire, vector, num, Stmts, end, call, loop, Decl, Block, Spelled, Callee, gate, block, Program}
 use Rattle.rules.specs.Names.{Role, a-wire, is_index, role_of, Scope, generic, declared, scope_of, find, role_at, once, expression, expressions, arguments}

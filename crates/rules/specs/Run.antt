@@ -1,5 +1,5 @@
 -- 01, "Meaning": what a run of a netlist shows. Assumes nothing.
-use Rattle.std.specs.Prelude.{◌≡◌, ℕ, ◌+◌, ◌≤◌, ◌<◌, Bool, true, false, cond, List, [], ◌∷◌, map, length, get_or, eqb}
+use Rattle.std.specs.Prelude.{◌≡◌, ℕ, ◌≤◌, ◌<◌, cond, List, [], ◌∷◌, map, length, get_or, eqb}
 use Rattle.rules.specs.Netlist.{inputs, wires, gates, gate_at, inputs_at}
 use Rattle.rules.specs.Meaning.{Signal, dark, makes}
 

@@ -1,6 +1,6 @@
 -- The program that a text stands for, with its places. Where it uses a name it holds an N: as it is read, the name as it is spelled;
 -- once names are resolved, the number of the declaration that is meant. C is what a call names. Assumes nothing.
-use Rattle.std.specs.Prelude.{ℕ, List, [], ◌∷◌}
+use Rattle.std.specs.Prelude.{ℕ, List}
 
 -- a name as it is spelled, and the place of its first byte
 pub record Name : Type 0 where

@@ -1,5 +1,5 @@
 -- Bytes of quoted texts, pieces of texts, and finding a spelling in a list. Assumes nothing.
-use Rattle.std.specs.Prelude.{ℕ, zero, suc, ◌+◌, Bool, true, false, ◌&&◌, List, [], ◌∷◌, ◌++◌, length, replicate, ltb, eqb}
+use Rattle.std.specs.Prelude.{ℕ, suc, Bool, true, false, ◌&&◌, List, [], ◌∷◌, ◌++◌, length, replicate, ltb, eqb}
 use Prim.Native.Char.{code}
 use Prim.Native.String.{String, [] as empty, ◌∷◌ as ◌before◌}
 

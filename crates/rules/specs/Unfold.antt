@@ -1,12 +1,12 @@
 -- 01, "Unfolding": a resolved program's wires, gates and steps, and refusals 10 to 18 in their order. Assumes nothing.
-use Rattle.std.specs.Prelude.{ℕ, zero, suc, ◌+◌, ◌-◌, Bool, true, false, not, ◌||◌, List, [], ◌∷◌, ◌++◌, map, length, get_or, take, leb, ltb, eqb, ℤ, ◌-ℤ◌}
+use Rattle.std.specs.Prelude.{ℕ, zero, suc, ◌+◌, ◌-◌, Bool, false, not, ◌||◌, List, [], ◌∷◌, ◌++◌, map, length, get_or, take, leb, ltb, eqb, ℤ, ◌-ℤ◌}
 use Rattle.std.proofs.Math.IntN.{suc_ℤ}
 use Rattle.rules.specs.declared.Gate.{Gate}
 use Rattle.rules.specs.Outcome.{Out, ok, refuse, ◌>>=◌, at, need, nth}
 use Rattle.rules.specs.Primitives.{inputs_of}
 use Rattle.rules.specs.Syntax.{Stmts, end, call, loop, Decl, Block, Callee, gate, block, Program}
-use Rattle.rules.specs.Values.{Env, generics, bound, eval, evals, rounds, Shape, shape}
-use Rattle.rules.specs.Frames.{Cells, Sig, Frame, blanks, resolves, tie, ends}
+use Rattle.rules.specs.Values.{Env, generics, bound, eval, evals, rounds, shape}
+use Rattle.rules.specs.Frames.{Cells, Frame, blanks, resolves, tie, ends}
 use Rattle.rules.specs.Netlist.{unused, net_words}
 
 -- wires base, base + 1, .. base + len - 1

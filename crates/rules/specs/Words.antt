@@ -1,5 +1,5 @@
 -- 01, "Words and order of words": the word that stands at a place of a text, a bad one included. Assumes nothing.
-use Rattle.std.specs.Prelude.{ℕ, zero, suc, ◌+◌, ◌-◌, ◌*◌, Bool, true, false, ◌&&◌, ◌||◌, cond, List, [], ◌∷◌, map, length, get_or, take, drop, ltb, leb, eqb}
+use Rattle.std.specs.Prelude.{ℕ, suc, ◌+◌, ◌-◌, ◌*◌, Bool, true, ◌&&◌, ◌||◌, cond, List, [], ◌∷◌, map, length, get_or, take, drop, ltb, leb, eqb}
 use Prim.Native.String.{String}
 use lib.Text.{eqt}
 use Rattle.rules.specs.Text.{bytes, pick, index_of, is_in}

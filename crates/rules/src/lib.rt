@@ -1,11 +1,13 @@
 // The machine types that the definitions speak of. Every rule itself stands in specs/.
+#![tactic(auto)]
+
 ghost use Rattle.std.specs.Prelude.{◌≡◌, cond, [], ◌∷◌, ◌++◌, ◌-◌, length, replicate, eqb};
 ghost use Rattle.rules.specs.Primitives.{primitive, inputs_of};
 ghost use Rattle.rules.specs.Meaning.{makes};
 ghost use Rattle.rules.specs.Run.{to_byte, from_byte};
 
 // A gate of a netlist: its five words (01, "Unfolding").
-#[derive(Drop)]
+#[derive(Clone, Copy)]
 pub struct Gate {
     pub kind: u16,
     pub a: u16,
@@ -15,7 +17,7 @@ pub struct Gate {
 }
 
 // The name of a primitive: so many letters, then zeros.
-#[derive(Drop)]
+#[derive(Clone, Copy)]
 pub struct KindName {
     pub letters: [u8; 7],
     pub length: usize,
@@ -134,7 +136,7 @@ fn chosen(c: u8, u: u8, v: u8) -> u8
 }
 
 // A word of a text and where it stands: from its first byte to the byte after it (01, "Words and order of words").
-#[derive(Drop)]
+#[derive(Clone, Copy)]
 pub enum Word {
     // A byte or word of no kind.
     Bad(usize),

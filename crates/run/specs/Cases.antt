@@ -5,8 +5,8 @@ use Rattle.rules.specs.Primitives.{primitive}
 use Rattle.rules.specs.Netlist.{WellFormed, gate_at}
 use Rattle.rules.specs.Meaning.{Signal}
 use Rattle.rules.specs.Run.{to_byte, Inputs}
-use Rattle.rules.specs.Laws.Bytes.{byte-below}
-use Rattle.rules.specs.Laws.Rings.{ring, ring-stays, choice, chosen}
+use Rattle.rules.proofs.Laws.Bytes.{byte-below}
+use Rattle.rules.proofs.Laws.Rings.{ring, ring-stays, choice, chosen}
 use Rattle.netlist.specs.Answers.{Told}
 use Rattle.run.specs.Ran.{Ran}
 use Rattle.run.specs.Known.{shown-one}

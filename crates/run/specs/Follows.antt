@@ -5,8 +5,8 @@ use Rattle.std.proofs.lemmas.List.{length-map}
 use Rattle.rules.specs.Netlist.{inputs, outputs, wires, WellFormed}
 use Rattle.rules.specs.Meaning.{Signal, dark, NetAllows}
 use Rattle.rules.specs.Run.{Known, to_byte, from_byte, Inputs, Shows}
-use Rattle.rules.specs.Laws.Runs.{outs, allowed, only}
-use Rattle.rules.specs.Laws.Shows.{shown-bit, shown-settled, port-right}
+use Rattle.rules.proofs.Laws.Runs.{outs, allowed, only}
+use Rattle.rules.proofs.Laws.Shows.{shown-bit, shown-settled, port-right}
 use Rattle.netlist.specs.Answers.{Told, done}
 use Rattle.run.specs.Ran.{Ran, short-values, bad-netlist, wrong-inputs, ran}
 

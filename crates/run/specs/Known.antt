@@ -4,7 +4,7 @@ use Rattle.std.proofs.Common.{sym, ap, ◌∙◌, arith, ext_get_or}
 use Rattle.std.proofs.Math.Decide.{dec_lt}
 use Rattle.rules.specs.Netlist.{wires, WellFormed}
 use Rattle.rules.specs.Run.{to_byte, from_byte, Shown, settled, unsettled, Shows}
-use Rattle.rules.specs.Laws.Runs.{functional}
+use Rattle.rules.proofs.Laws.Runs.{functional}
 use Rattle.netlist.specs.Answers.{Told, done, refused}
 use Rattle.run.specs.Ran.{Ran, short-values, bad-netlist, wrong-inputs, ran}
 

@@ -10,8 +10,8 @@ use Rattle.rules.specs.Run.{Known, given, made, AllKnown, to_byte, from_byte, In
 use Rattle.clear.specs.Zeros.{zeros, zeros-at}
 use Rattle.netlist.specs.Answers.{refused}
 use Rattle.run.specs.Ran.{Ran, short-values, bad-netlist, wrong-inputs}
-use Rattle.rules.specs.Laws.Bytes.{byte-below, from-to, to-from, input-bit}
-use Rattle.rules.specs.Laws.Runs.{functional}
+use Rattle.rules.proofs.Laws.Bytes.{byte-below, from-to, to-from, input-bit}
+use Rattle.rules.proofs.Laws.Runs.{functional}
 use Rattle.run.specs.Going.{Pin, Ready, none, more, Wants, here, later, bits_at, Still, has, wants, Visit, settles, stays, twos, Sweep, same, fewer, Going, First, input, other}
 
 -- ---- the wires of a gate

@@ -1,4 +1,6 @@
 // A run of a netlist: the inputs are known, a gate whose inputs are all known makes its output known, until nothing more is added.
+#![tactic(auto)]
+
 ghost use Rattle.std.specs.Prelude.{◌≡◌, ◌||◌, List, ℕ, ◌≤◌, ◌<◌, length, get_or};
 ghost use Rattle.rules.specs.Netlist.{wires, gates, WellFormed};
 ghost use Rattle.rules.specs.Run.{Inputs};

@@ -1,5 +1,7 @@
 // The names that words of a tape stand for: their letters, where they are found among others, and what a declared one is.
 // Cost: a name is compared with those before it in a row, one after another.
+#![tactic(auto)]
+
 ghost use Rattle.std.specs.Prelude.{◌≡◌, map, ◌++◌, min, take};
 ghost use Rattle.rules.specs.Text.{same, index_of, is_in, bytes};
 ghost use Rattle.rules.specs.Names.{is_index};

@@ -8,9 +8,9 @@ use Rattle.rules.specs.Values.{Env, generics}
 use Rattle.rules.specs.Frames.{Frame as Names, blanks}
 use Rattle.rules.specs.Netlist.{net_words}
 use Rattle.rules.specs.Unfold.{Range, Wires, State, declare, unfolds, deep, Unfolded, unfold_main}
-use Rattle.rules.specs.Laws.Outcomes.{ok-inj, inv, inv_at, refused, went}
-use Rattle.rules.specs.Laws.Scoped.{names_of}
-use Rattle.rules.specs.Laws.Suits.{Suits, main-suits}
+use Rattle.rules.proofs.Laws.Outcomes.{ok-inj, inv, inv_at, refused, went}
+use Rattle.rules.proofs.Laws.Scoped.{names_of}
+use Rattle.rules.proofs.Laws.Suits.{Suits, main-suits}
 use Rattle.frames.specs.Fresh.{some-state}
 use Rattle.unfold.specs.Entering.{blank-many}
 use Rattle.unfold.specs.Opening.{declare-many}

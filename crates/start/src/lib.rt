@@ -1,4 +1,6 @@
 // Main's ports and locals, the first wires.
+#![tactic(auto)]
+
 ghost use Rattle.std.specs.Prelude.{◌≡◌, ℕ, [], replicate, pos};
 ghost use Rattle.rules.specs.Syntax.{Block, Callee};
 ghost use Rattle.rules.specs.Values.{generics};
@@ -10,21 +12,21 @@ use frames::{Frame, Fresh};
 use tape::Kind;
 
 // How many places are filled, how many wires the inputs have, the next wire, and the place after the ports; or a refusal's number and place.
-#[derive(Drop)]
+#[derive(Clone, Copy)]
 enum Ports {
     Done(usize, usize, usize, usize),
     No(usize, usize),
 }
 
 // The body's first word and the place after its last; or a refusal's number and place.
-#[derive(Drop)]
+#[derive(Clone, Copy)]
 pub enum Start {
     Body(usize, usize),
     No(usize, usize),
 }
 
 // Main's frame where its body begins, and how many inputs, outputs and wires there are.
-#[derive(Drop)]
+#[derive(Clone, Copy)]
 pub struct Begun {
     pub start: Start,
     pub frame: Frame,

@@ -3,7 +3,7 @@ use Rattle.std.specs.Prelude.{◌≡◌, refl, ℕ, suc, List, [], ◌∷◌, �
 use Rattle.std.proofs.Common.{sym, ap, ◌∙◌, append_assoc}
 use Rattle.rules.specs.Syntax.{Name, Stmts, end, call, loop, before}
 use Rattle.rules.specs.Grammar.{Body, expression, argument, statement}
-use Rattle.rules.specs.Laws.Enough.{enough}
+use Rattle.rules.proofs.Laws.Enough.{enough}
 use Rattle.tape.specs.Layout.{name_w}
 use Rattle.tape.specs.Encoding.{exp_w, arg_w, list_w, stmts_w, callee_w}
 use Rattle.tape.specs.Written.{none}

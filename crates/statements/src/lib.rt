@@ -1,4 +1,6 @@
 // Statements: calls and loops, onto the tape. Lists are loops; a loop's body and its statements call each other.
+#![tactic(auto)]
+
 ghost use Rattle.std.specs.Prelude.{◌≡◌, [], ◌∷◌, ◌+◌, ◌≤◌, ◌<◌, length};
 ghost use Rattle.rules.specs.Syntax.{end, before};
 ghost use Rattle.rules.specs.Readers.{spelling, if_next, give, some, rest};

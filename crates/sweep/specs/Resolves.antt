@@ -3,7 +3,7 @@ use Rattle.std.specs.Prelude.{◌≡◌, List, ℕ, ◌≤◌, length}
 use Rattle.rules.specs.Outcome.{Out, ok, refuse}
 use Rattle.rules.specs.Syntax.{Spelled, Program}
 use Rattle.rules.specs.Resolve.{names}
-use Rattle.rules.specs.Laws.Spelt.{SpeltBlock, All}
+use Rattle.rules.proofs.Laws.Spelt.{SpeltBlock, All}
 use Rattle.tape.specs.Encoding.{tape_of}
 use Rattle.tape.specs.Resolved.{resolved_tape}
 use Rattle.tape.specs.Written.{put}

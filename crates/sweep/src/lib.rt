@@ -1,8 +1,10 @@
 // The sweep that resolves the names of a tape, word by word, stands in specs/Sweep; specs/Laws prove that it is the rule for names.
 // These are the types of its answers.
+#![tactic(auto)]
+
 
 // What is known where a word stands, beside the words of the declared names and the ends of loops.
-#[derive(Drop)]
+#[derive(Clone, Copy)]
 pub struct Spot {
     // How many names its block declared so far.
     pub count: usize,
@@ -15,7 +17,7 @@ pub struct Spot {
 }
 
 // What a call wants, and where among the headings its ports begin.
-#[derive(Drop)]
+#[derive(Clone, Copy)]
 pub struct Heading {
     pub generics: usize,
     pub inputs: usize,
@@ -24,26 +26,26 @@ pub struct Heading {
 }
 
 // A number, or a refusal's number and place.
-#[derive(Drop)]
+#[derive(Clone, Copy)]
 pub enum Named {
     Done(usize),
     No(usize, usize),
 }
 
-#[derive(Drop)]
+#[derive(Clone, Copy)]
 pub enum Found {
     At(usize),
     Nothing,
 }
 
 // What a word becomes, or a refusal's number and place.
-#[derive(Drop)]
+#[derive(Clone, Copy)]
 pub enum Turn {
     Word(u32),
     Halt(usize, usize),
 }
 
-#[derive(Drop)]
+#[derive(Clone, Copy)]
 pub struct Step {
     pub turn: Turn,
     pub spot: Spot,

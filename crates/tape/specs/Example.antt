@@ -1,8 +1,8 @@
 -- The drawing of docs/WORK-TABLE.md, computed. Assumes nothing.
-use Rattle.std.specs.Prelude.{◌≡◌, refl, ℕ, List, [], ◌∷◌}
+use Rattle.std.specs.Prelude.{◌≡◌, refl, [], ◌∷◌}
 use Prim.Native.String.{String}
 use Rattle.rules.specs.Text.{bytes, pick, same, index_of}
-use Rattle.rules.specs.Outcome.{Out, ok, ◌>>=◌}
+use Rattle.rules.specs.Outcome.{ok, ◌>>=◌}
 use Rattle.rules.specs.Words.{run, all, value_of, spelled, begun, word_at}
 use Rattle.rules.specs.Syntax.{before}
 use Rattle.rules.specs.Readers

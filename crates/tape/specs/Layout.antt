@@ -1,5 +1,5 @@
 -- One word of the tape: a kind, a head of three bits and a value, as (kind * 8 + head) * 2^25 + value. Assumes nothing.
-use Rattle.std.specs.Prelude.{ℕ, ◌+◌, ◌*◌, ◌-◌, ◌/◌, ◌%◌, ◌<◌, ◌≤◌, ◌≡◌, Bool, true, false, length, eqb}
+use Rattle.std.specs.Prelude.{ℕ, ◌+◌, ◌*◌, ◌-◌, ◌/◌, ◌%◌, ◌<◌, ◌≡◌, length, eqb}
 use Rattle.std.proofs.Common.{arith}
 use Rattle.rules.specs.Text.{pick}
 use Rattle.rules.specs.Syntax.{Name, Op, plus, minus, times}

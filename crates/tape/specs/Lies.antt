@@ -1,6 +1,6 @@
 -- Words that lie on the tape from a place on, and how they come apart. Assumes nothing.
-use Rattle.std.specs.Prelude.{◌≡◌, refl, ℕ, zero, suc, ◌+◌, ◌-◌, ◌≤◌, ◌<◌, List, [], ◌∷◌, ◌++◌, length, get_or}
-use Rattle.std.proofs.Common.{sym, ap, ◌∙◌, subst, arith, length-append, get_or-append-add}
+use Rattle.std.specs.Prelude.{◌≡◌, ℕ, suc, ◌+◌, ◌≤◌, ◌<◌, List, ◌∷◌, ◌++◌, length, get_or}
+use Rattle.std.proofs.Common.{ap, ◌∙◌, subst, arith, length-append, get_or-append-add}
 use Rattle.std.proofs.Math.ListN.{get_or-append}
 
 pub record Lies (t : List ℕ) (at : ℕ) (ws : List ℕ) : Type 0 where

@@ -1,5 +1,5 @@
 -- What a reader leaves on the tape, and its laws. Assumes nothing.
-use Rattle.std.specs.Prelude.{◌≡◌, refl, List, [], ◌∷◌, ◌++◌, ℕ, zero, suc, ◌+◌, ◌-◌, ◌*◌, ◌<◌, ◌≤◌, length, set, take, drop}
+use Rattle.std.specs.Prelude.{◌≡◌, refl, List, [], ◌∷◌, ◌++◌, ℕ, suc, ◌+◌, ◌-◌, ◌<◌, ◌≤◌, length, set, take, drop}
 use Rattle.std.proofs.Common.{sym, ap, ◌∙◌, append_assoc, add-zero, add-one, arith, length-append, length-set, take-append-drop, take-suc-set, drop-set-lt}
 use Rattle.std.proofs.lemmas.List.{set_comm}
 use Rattle.rules.specs.Outcome.{Out, ok, refuse}

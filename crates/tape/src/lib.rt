@@ -1,17 +1,19 @@
 // The tape: a program as words in the lent work table. The encoding stands in specs/Encoding, the layout of a word in specs/Layout.
+#![tactic(auto)]
+
 ghost use Rattle.std.specs.Prelude.{◌≡◌, ◌+◌, ◌*◌, ◌-◌, ◌<◌, ◌≤◌, length, set, replicate};
 ghost use Rattle.tape.specs.Layout.{pack, kind_of, head_in, value_of, spelt};
 
 // What a reader answers: where the thing ends in the text, where its words end on the tape, and how many names its block has then (0
 // where that does not matter); or a refusal's number and place.
-#[derive(Drop)]
+#[derive(Clone, Copy)]
 pub enum Read {
     Done(usize, usize, usize),
     No(usize, usize),
 }
 
 // What a word of the tape is about.
-#[derive(Drop)]
+#[derive(Clone, Copy)]
 pub struct Kind(pub u32);
 
 impl Kind {

@@ -8,8 +8,8 @@ use Rattle.rules.specs.Syntax.{Exp, Arg}
 use Rattle.rules.specs.Values.{Env, evals}
 use Rattle.rules.specs.Frames.{Frame as Names, resolves, singles, ends}
 use Rattle.rules.specs.Unfold.{Range, Wires, State, emit, gate_on}
-use Rattle.rules.specs.Laws.Outcomes.{both_yes, no_ok}
-use Rattle.rules.specs.Laws.Same.{Ends as Fitting, ends-yes}
+use Rattle.rules.proofs.Laws.Outcomes.{both_yes, no_ok}
+use Rattle.rules.proofs.Laws.Same.{Ends as Fitting, ends-yes}
 use Rattle.frames.specs.declared.Frame.{Frame}
 use Rattle.frames.specs.Laid.{laid, column-at}
 use Rattle.frames.specs.Lists.{Drawn, base_r}

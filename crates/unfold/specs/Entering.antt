@@ -7,7 +7,7 @@ use Rattle.rules.specs.Syntax.{Name, Exp, Arg, Decl, Block, Callee}
 use Rattle.rules.specs.Values.{Env, generics, evals, shape}
 use Rattle.rules.specs.Frames.{Sig, Frame as Names, blanks, resolves, tie}
 use Rattle.rules.specs.Unfold.{Range, Wires, State, declare}
-use Rattle.rules.specs.Laws.Outcomes.{no_ok, ok-inj, inv}
+use Rattle.rules.proofs.Laws.Outcomes.{no_ok, ok-inj, inv}
 use Rattle.tape.specs.Encoding.{list_w}
 use Rattle.frames.specs.declared.Frame.{Frame}
 use Rattle.frames.specs.declared.Many.{Many}

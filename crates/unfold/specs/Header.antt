@@ -8,7 +8,7 @@ use Rattle.std.proofs.Math.ListN.{length-append}
 use Rattle.std.proofs.lemmas.Bool.{lt-leb}
 use Rattle.rules.specs.Syntax.{Name, Decl, Block, Stmts, Callee}
 use Rattle.rules.specs.Unfold.{Range}
-use Rattle.rules.specs.Laws.Spelt.{All}
+use Rattle.rules.proofs.Laws.Spelt.{All}
 use Rattle.tape.specs.Layout.{pack, kind_of, value_of, kind-of, value-of, name_w}
 use Rattle.tape.specs.Encoding.{list_w, decl_w, sort_w, generic_w, stmts_w, block_w}
 use Rattle.tape.specs.Resolved.{slot_w, meant_w}

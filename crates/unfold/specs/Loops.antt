@@ -6,8 +6,8 @@ use native.Mathlib.Omega.{arith}
 use Rattle.std.proofs.Math.Logic.{inr}
 use Rattle.std.proofs.Math.ListN.{length, length-append}
 use Rattle.rules.specs.Syntax.{Exp, Arg, Stmts, end, call, loop, Callee}
-use Rattle.rules.specs.Laws.Spelt.{All, AllExp, AllStmts}
-use Rattle.rules.specs.Laws.Numbered.{CalleeOf}
+use Rattle.rules.proofs.Laws.Spelt.{All, AllExp, AllStmts}
+use Rattle.rules.proofs.Laws.Numbered.{CalleeOf}
 use Rattle.tape.specs.Layout.{pack, kind_of, value_of, kind-of, value-of}
 use Rattle.tape.specs.Encoding.{exp_w, arg_w, list_w, stmts_w}
 use Rattle.tape.specs.Resolved.{slot_w, meant_w}

@@ -7,7 +7,7 @@ use Rattle.rules.specs.Syntax.{Exp, Arg, Decl, Block, Callee}
 use Rattle.rules.specs.Values.{Env, generics, evals, shape}
 use Rattle.rules.specs.Frames.{Sig, Frame as Names, blanks, resolve, resolves, tie}
 use Rattle.rules.specs.Unfold.{Range, Wires, State, declare}
-use Rattle.rules.specs.Laws.Outcomes.{no_ok, ok-inj, inv, inv_at, refused, went}
+use Rattle.rules.proofs.Laws.Outcomes.{no_ok, ok-inj, inv, inv_at, refused, went}
 use Rattle.frames.specs.declared.Frame.{Frame}
 use Rattle.frames.specs.Laid.{laid, column, column-length}
 use Rattle.frames.specs.Stands.{Stands, Knows, knows-generics}

@@ -2,7 +2,7 @@
 use Rattle.std.specs.Prelude.{◌≡◌, refl, ℕ, zero, suc, ◌+◌, ◌-◌, ◌*◌, ◌≤◌, ◌<◌, Bool, true, false, List, [], ◌∷◌, ◌++◌, ◌⊎◌, length, get_or}
 use Rattle.std.proofs.Common.{sym, ap, ◌∙◌, subst, arith, inl, inr, length-append}
 use Rattle.rules.specs.Syntax.{Op, plus, minus, times, Exp, number, name, neg, group, both, Arg, whole, part, Callee}
-use Rattle.rules.specs.Laws.Spelt.{All, AllExp, AllArg, strength}
+use Rattle.rules.proofs.Laws.Spelt.{All, AllExp, AllArg, strength}
 use Rattle.tape.specs.Layout.{pack, kind_of, kind-of, flip, head_of}
 use Rattle.tape.specs.Encoding.{exp_w, arg_w, list_w}
 use Rattle.tape.specs.Resolved.{slot_w}

@@ -3,7 +3,7 @@ use Rattle.std.specs.Prelude.{◌≡◌, refl, ℕ, zero, suc, ◌+◌, ◌<◌,
 use Rattle.std.proofs.Common.{sym, ap, ◌∙◌, arith}
 use Rattle.rules.specs.Names.{Role}
 use Rattle.rules.specs.Syntax.{Arg, whole, part}
-use Rattle.rules.specs.Laws.Scoped.{ArgOk, ArgsOk}
+use Rattle.rules.proofs.Laws.Scoped.{ArgOk, ArgsOk}
 use Rattle.frames.specs.Args.{arg_name}
 use Rattle.unfold.specs.Statements.{Named}
 

@@ -2,7 +2,7 @@
 use Rattle.std.specs.Prelude.{◌≡◌, ℕ, ◌+◌, ◌≤◌, List, length, get_or}
 use Rattle.rules.specs.Outcome.{ok, nth}
 use Rattle.rules.specs.Syntax.{Block, Callee, Program}
-use Rattle.rules.specs.Laws.Scoped.{Scoped}
+use Rattle.rules.proofs.Laws.Scoped.{Scoped}
 use Rattle.unfold.specs.Header.{HereBlock, body_w, after_locals}
 use Rattle.unfold.specs.Statements.{HereStmts}
 

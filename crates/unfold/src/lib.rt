@@ -1,4 +1,6 @@
 // The unfolding of a resolved program on the tape.
+#![tactic(auto)]
+
 ghost use Rattle.std.specs.Prelude.{◌≡◌, ℕ, ◌+◌, ◌*◌, ◌-◌, ◌<◌, ◌≤◌, List, ◌++◌, length, get_or};
 ghost use Rattle.rules.specs.Syntax.{Exp, Arg, Stmts, Block, Callee};
 ghost use Rattle.rules.specs.Values.{Env};
@@ -20,14 +22,14 @@ use gates::{Counts, Step};
 use tape::Kind;
 
 // A body's first word, the place after its last, and the next wire; or the number of a refusal.
-#[derive(Drop)]
+#[derive(Clone, Copy)]
 pub enum Entry {
     Body(usize, usize, usize),
     Wrong(usize),
 }
 
 // What a statement's first word tells, and its place: a primitive by its kind, a block by its number, a loop by its index.
-#[derive(Drop)]
+#[derive(Clone, Copy)]
 pub enum Head {
     Gate(u16, usize),
     Block(usize, usize),
@@ -35,7 +37,7 @@ pub enum Head {
 }
 
 // A block that is entered, with the frame of its body.
-#[derive(Drop)]
+#[derive(Clone, Copy)]
 pub struct Opened {
     pub entry: Entry,
     pub frame: Frame,

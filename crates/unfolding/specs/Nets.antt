@@ -12,10 +12,10 @@ use Rattle.rules.specs.Values.{generics}
 use Rattle.rules.specs.Frames.{Frame as Names}
 use Rattle.rules.specs.Netlist.{gate_words, net_words}
 use Rattle.rules.specs.Unfold.{Range, State, driven, unfolds, deep, Unfolded as Net, unfold_main}
-use Rattle.rules.specs.Laws.Outcomes.{nth-any}
-use Rattle.rules.specs.Laws.Scoped.{ports_of, names_of, StmtsOk}
-use Rattle.rules.specs.Laws.Late.{nth-there}
-use Rattle.rules.specs.Laws.Keep.{unfolded-well}
+use Rattle.rules.proofs.Laws.Outcomes.{nth-any}
+use Rattle.rules.proofs.Laws.Scoped.{ports_of, names_of, StmtsOk}
+use Rattle.rules.proofs.Laws.Late.{nth-there}
+use Rattle.rules.proofs.Laws.Keep.{unfolded-well}
 use Rattle.tape.specs.Written.{put, put_is}
 use Rattle.clear.specs.Zeros.{drop-zeros}
 use Rattle.frames.specs.declared.Frame.{Frame}

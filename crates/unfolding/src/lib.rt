@@ -1,4 +1,6 @@
 // A whole resolved program: main's wires, its body, and the table of contents.
+#![tactic(auto)]
+
 ghost use Rattle.std.specs.Prelude.{◌≡◌, List, ◌∷◌, ℕ, ◌<◌, ◌≤◌, length, get_or, drop};
 ghost use Rattle.rules.specs.Text.{zeros};
 ghost use Rattle.rules.specs.Syntax.{Program};
@@ -12,7 +14,7 @@ use gates::Counts;
 use start::Start;
 
 // The steps; or a refusal's number and place.
-#[derive(Drop)]
+#[derive(Clone, Copy)]
 pub enum Unfolded {
     Steps(usize),
     No(usize, usize),

@@ -6,7 +6,7 @@ use Rattle.std.proofs.lemmas.Bool.{eqb-false}
 use Rattle.rules.specs.Text.{pick}
 use Rattle.rules.specs.Syntax.{Op, plus, minus, times, Exp, number, name, neg, group, both, Callee}
 use Rattle.rules.specs.Values.{Env}
-use Rattle.rules.specs.Laws.Spelt.{AllExp, strength}
+use Rattle.rules.proofs.Laws.Spelt.{AllExp, strength}
 use Rattle.tape.specs.Layout.{pack, NUMBER, NAME, BRACKET, head_of, flip}
 use Rattle.tape.specs.Encoding.{exp_w, list_w}
 use Rattle.tape.specs.Resolved.{slot_w}

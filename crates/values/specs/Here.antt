@@ -6,8 +6,8 @@ use Rattle.rules.specs.Text.{pick}
 use Rattle.rules.specs.Outcome.{Out, ok, refuse}
 use Rattle.rules.specs.Syntax.{Op, plus, minus, times, Exp, number, name, neg, group, both}
 use Rattle.rules.specs.Values.{Env, eval}
-use Rattle.rules.specs.Laws.Spelt.{All, AllExp, strength}
-use Rattle.rules.specs.Laws.Outcomes.{ok-inj, no_ok}
+use Rattle.rules.proofs.Laws.Spelt.{All, AllExp, strength}
+use Rattle.rules.proofs.Laws.Outcomes.{ok-inj, no_ok}
 use Rattle.tape.specs.Layout.{pack, kind_of, head_in, value_of, NUMBER, NAME, BRACKET, head_of, flip, kind-of, head-of, value-of}
 use Rattle.tape.specs.Encoding.{exp_w, list_w}
 use Rattle.tape.specs.Resolved.{slot_w}

@@ -5,7 +5,7 @@ use Rattle.std.proofs.Math.IntN.{suc_ℤ}
 use Rattle.rules.specs.Outcome.{Out, ok, refuse, ◌>>=◌, need}
 use Rattle.rules.specs.Syntax.{Exp, number, name, neg, group, both}
 use Rattle.rules.specs.Values.{Env, ranged, eval, rounds}
-use Rattle.rules.specs.Laws.Outcomes.{ok-inj, inv, need-yes}
+use Rattle.rules.proofs.Laws.Outcomes.{ok-inj, inv, need-yes}
 use Rattle.tape.specs.Encoding.{exp_w}
 use Rattle.tape.specs.Resolved.{slot_w}
 use Rattle.values.specs.declared.Apart.{Apart}

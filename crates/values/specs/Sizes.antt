@@ -5,7 +5,7 @@ use Rattle.std.proofs.lemmas.Bool.{lt-leb}
 use Rattle.rules.specs.Outcome.{Out, ok, refuse, ◌>>=◌, need}
 use Rattle.rules.specs.Syntax.{Exp, Sort, wire, vector, num, Callee}
 use Rattle.rules.specs.Values.{Env, generics, eval, Shape, shape, width}
-use Rattle.rules.specs.Laws.Spelt.{All, AllExp, AllSort}
+use Rattle.rules.proofs.Laws.Spelt.{All, AllExp, AllSort}
 use Rattle.tape.specs.Layout.{pack, kind_of, head_in, value_of, kind-of, head-of, value-of}
 use Rattle.tape.specs.Encoding.{exp_w, list_w, sort_w}
 use Rattle.tape.specs.Resolved.{slot_w}

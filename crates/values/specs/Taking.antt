@@ -10,7 +10,7 @@ use Rattle.rules.specs.Text.{pick}
 use Rattle.rules.specs.Outcome.{Out, ok, refuse}
 use Rattle.rules.specs.Syntax.{Op, Exp, number, name, neg, group, both}
 use Rattle.rules.specs.Values.{Env, generics, eval}
-use Rattle.rules.specs.Laws.Spelt.{All, AllExp}
+use Rattle.rules.proofs.Laws.Spelt.{All, AllExp}
 use Rattle.tape.specs.Layout.{pack, kind_of, head_in, value_of, kind-of, head-of, value-of}
 use Rattle.tape.specs.Encoding.{exp_w, list_w}
 use Rattle.tape.specs.Resolved.{slot_w}

@@ -1,5 +1,7 @@
 // The values of expressions that lie on the tape. A value is an i32, worked out as an i64: no sum, difference or product of two such
 // numbers leaves an i64, and in proofs both are the rules' own integers.
+#![tactic(auto)]
+
 ghost use Rattle.std.specs.Prelude.{◌≡◌, ℕ, ◌+◌, ◌*◌, ◌-◌, ◌<◌, ◌≤◌, length, get_or, nat_abs, ◌-ℤ◌};
 ghost use Rattle.std.proofs.Math.IntN.{suc_ℤ};
 ghost use Rattle.rules.specs.Syntax.{Exp, Sort};
@@ -17,14 +19,14 @@ ghost use Rattle.values.specs.Sizes.{HereSort, WrittenSort, Sizes, size_of, apar
 use tape::Kind;
 
 // A number from -1,000,000 to 1,000,000, or none where a part of an expression lies beyond.
-#[derive(Drop)]
+#[derive(Clone, Copy)]
 pub enum Number {
     Is(i32),
     Beyond,
 }
 
 // What is in hand between two factors: the terms before the last, the mark before the last (0 none, 1 +, 2 -), and the last so far.
-#[derive(Drop)]
+#[derive(Clone, Copy)]
 pub struct Sum {
     pub sum: Number,
     pub mark: u32,
@@ -32,28 +34,28 @@ pub struct Sum {
 }
 
 // What an expression on the tape comes to: its value and the place after its words, or none where a part lies out of range.
-#[derive(Drop)]
+#[derive(Clone, Copy)]
 pub enum Value {
     At(i32, usize),
     Outside,
 }
 
 // What a type comes to: its lowest index, how many wires it has, and the place after its words; or the number of a refusal.
-#[derive(Drop)]
+#[derive(Clone, Copy)]
 pub enum Size {
     Wires(i32, usize, usize),
     Wrong(usize),
 }
 
 // How far one number lies above another.
-#[derive(Drop)]
+#[derive(Clone, Copy)]
 pub enum Apart {
     By(usize),
     Not,
 }
 
 // A loop's first index, how many rounds it has, and the place after the words of its bounds; or the number of a refusal.
-#[derive(Drop)]
+#[derive(Clone, Copy)]
 pub enum Rounds {
     From(i32, usize, usize),
     Wrong(usize),

@@ -7,7 +7,7 @@ use lib.Dec.{T, leb, eqb, leb→le, eqb→eq}
 use borrow.Author.Tests.{le-leb, lt-leb}
 use Rattle.rules.specs.Text.{pick}
 use Rattle.rules.specs.Words.{is_separator, is_digit, is_letter, is_mark, in_word}
-use Rattle.rules.specs.Laws.Outcomes.{both_yes}
+use Rattle.rules.proofs.Laws.Outcomes.{both_yes}
 use Rattle.words.specs.Classes.{class_of, in_classes}
 
 pub either : {X : Type 0} (a b : Bool) → T (a || b) → (T a → X) → (T b → X) → X

@@ -13,8 +13,8 @@ use Rattle.rules.specs.Text.{bytes}
 use Rattle.rules.specs.Words.{is_separator, is_digit, is_letter, is_mark, in_word, reserved, run, all, value_of, spelled, begun, word_at}
 use Rattle.rules.specs.declared.Word.{Word}
 use Rattle.rules.specs.declared.Word.TheVariants.{Name, Number, Mark}
-use Rattle.rules.specs.Laws.Outcomes.{both_yes}
-use Rattle.rules.specs.Laws.Placed.{pick-of, run-most, run-some}
+use Rattle.rules.proofs.Laws.Outcomes.{both_yes}
+use Rattle.rules.proofs.Laws.Placed.{pick-of, run-most, run-some}
 use Rattle.words.specs.Onward.{Onward, width, widths, wide}
 use Rattle.words.proofs.Classes.{either}
 use Rattle.words.proofs.Same.{found-length}

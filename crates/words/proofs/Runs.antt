@@ -11,7 +11,7 @@ use lib.ListN.{length, get_or, drop, take, drop_of_length-le, length-drop}
 use lib.Seq.{drop-cons}
 use Rattle.rules.specs.Text.{pick}
 use Rattle.rules.specs.Words.{is_separator, is_digit, in_word, run, all, value_of}
-use Rattle.rules.specs.Laws.Placed.{run-most}
+use Rattle.rules.proofs.Laws.Placed.{run-most}
 use Rattle.words.specs.Classes.{in_classes}
 use Rattle.words.proofs.Classes.{settled, separator-class, word-class, digit-class}
 

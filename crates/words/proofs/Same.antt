@@ -10,7 +10,7 @@ use lib.ListN.{length, get_or, take, drop, drop_of_length-le, length-take, lengt
 use lib.Seq.{drop-cons}
 use borrow.Author.Tests.{eq-eqb, ne_eqb}
 use Rattle.rules.specs.Text.{pick, same, index_of}
-use Rattle.rules.specs.Laws.Outcomes.{both_yes}
+use Rattle.rules.proofs.Laws.Outcomes.{both_yes}
 use Rattle.words.proofs.Classes.{settled}
 
 unlike : (l r : List ℕ) → (length l ≡ length r → ⊥) → same l r ≡ false

@@ -1,4 +1,6 @@
 // The word that stands at a place of a text (01, "Words and order of words").
+#![tactic(auto)]
+
 ghost use Rattle.std.specs.Prelude.{◌≡◌, ◌&&◌, map, ℕ, ◌+◌, ◌-◌, ◌<◌, ◌≤◌, length, take, drop, get_or, leb, eqb};
 ghost use Rattle.rules.specs.Text.{bytes, pick, same, index_of};
 ghost use Rattle.rules.specs.Words.{is_letter, reserved, run, value_of, spelled, word_at};

@@ -8,7 +8,7 @@ use Rattle.rules.specs.Text.{bytes, joined}
 use Rattle.rules.specs.Primitives.{primitive, inputs_of}
 use Rattle.rules.specs.Netlist.{inputs, outputs, wires, gates, gate_at, inputs_at, WellFormed}
 use Rattle.rules.specs.Flat.{decimal, between, wire_text, entry_text, ports_text, vars_text, wires_text, gate_text, gates_text, flat_text}
-use Rattle.rules.specs.Laws.FlatOne.{decimal-1, decimal-2, decimal-3, decimal-4}
+use Rattle.rules.proofs.Laws.FlatOne.{decimal-1, decimal-2, decimal-3, decimal-4}
 
 -- the lengths of pieces, added up
 sizes : List (List ℕ) → ℕ

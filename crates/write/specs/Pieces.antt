@@ -3,7 +3,7 @@ use Rattle.std.specs.Prelude.{◌≡◌, refl, cond, List, [], ◌∷◌, ℕ, z
 use Rattle.std.proofs.Common.{sym, ap, subst, ◌∙◌, append_assoc, append-nil, arith, lt-ltb, le-ltb}
 use Rattle.rules.specs.declared.Gate.{Gate}
 use Rattle.rules.specs.Text.{bytes, joined}
-use Rattle.rules.specs.Laws.Nets.{three}
+use Rattle.rules.proofs.Laws.Nets.{three}
 use Rattle.rules.specs.Primitives.{primitive, inputs_of}
 use Rattle.rules.specs.Netlist.{inputs, outputs, wires, gates, gate_at, inputs_at, Fine, WellFormed}
 use Rattle.rules.specs.Flat.{between, wire_text, entry_text, ports_text, vars_text, wires_text, gate_text, gates_text, flat_text}

@@ -1,4 +1,6 @@
 // A netlist as flat text, piece by piece into lent memory.
+#![tactic(auto)]
+
 ghost use Rattle.std.specs.Prelude.{[], ◌∷◌, ◌+◌, ◌≤◌, ◌<◌, length};
 ghost use Rattle.rules.specs.Primitives.{primitive};
 ghost use Rattle.rules.specs.Netlist.{gates, inputs_at, WellFormed};

@@ -5,7 +5,7 @@ use Rattle.marks.specs.Laws.Chains.{Going, start, ends, off, go_on}
 use Rattle.marks.specs.Laws.One.{past}
 use Rattle.marks.specs.Room.{Spends}
 use Rattle.rules.specs.Grammar.{is_product, is_sum, chain, expression_of, factor as factor_at}
-use Rattle.rules.specs.Laws.Enough.{enough}
+use Rattle.rules.proofs.Laws.Enough.{enough}
 use Rattle.rules.specs.Outcome.{◌>>=◌ as ◌and-then◌}
 use Rattle.rules.specs.Readers.{◌>>=◌}
 use Rattle.tape.specs.declared.Read.TheVariants.{Done}

@@ -10,7 +10,7 @@ use Rattle.rules.specs.Words.{word_at}
 use Rattle.rules.specs.Syntax.{both}
 use Rattle.rules.specs.Readers.{Reader, ◌>>=◌, give}
 use Rattle.rules.specs.Grammar.{Expr, joined, op_of, chain_up_to, chain}
-use Rattle.rules.specs.Laws.Enough.{link}
+use Rattle.rules.proofs.Laws.Enough.{link}
 use Rattle.tape.specs.Layout.{head_of, name_w}
 use Rattle.tape.specs.Encoding.{exp_w}
 use Rattle.tape.specs.Written.{Wrote, Got, none, later}

@@ -10,7 +10,7 @@ use Rattle.rules.specs.Text.{pick}
 use Rattle.rules.specs.Outcome.{Out, ok, refuse, ◌>>=◌ as ◌and-then◌}
 use Rattle.rules.specs.Words.{word_at, key}
 use Rattle.rules.specs.Readers.{Reader, ◌>>=◌, give, refused, marked, rest, some}
-use Rattle.rules.specs.Laws.Enough.{turn}
+use Rattle.rules.proofs.Laws.Enough.{turn}
 use Rattle.tape.specs.Encoding.{list_w}
 use Rattle.tape.specs.Written.{Wrote, Got, Gives, nothing, later, as-words}
 use Rattle.tape.specs.declared.Read.{Read}

@@ -10,7 +10,7 @@ use Rattle.rules.specs.Text.{pick}
 use Rattle.rules.specs.Outcome.{Out, ok, refuse, ◌>>=◌, at, need, need_at}
 use Rattle.rules.specs.Syntax.{Name, Exp, Arg, whole, part}
 use Rattle.rules.specs.Names.{Role, is_wire, is_vector, Scope, find, role_at, expression, expressions, argument, arguments}
-use Rattle.rules.specs.Laws.Spelt.{SpeltName, SpeltCall, All, AllExp, AllArg}
+use Rattle.rules.proofs.Laws.Spelt.{SpeltName, SpeltCall, All, AllExp, AllArg}
 use Rattle.tape.specs.Layout.{pack, kind_of, head_in, value_of, name_w, kind-of, value-of, head-of}
 use Rattle.tape.specs.Encoding.{list_w, exp_w, arg_w}
 use Rattle.tape.specs.Resolved.{slot_w}

@@ -14,8 +14,8 @@ use Rattle.rules.specs.Primitives.{primitive_names}
 use Rattle.rules.specs.Syntax.{Name, Decl, Stmts, Block, Spelled, Callee}
 use Rattle.rules.specs.Names.{Scope, generic, declared, scope_of}
 use Rattle.rules.specs.Resolve.{statements, generics, declarations, resolve_block, resolve_blocks}
-use Rattle.rules.specs.Laws.Carried.{map-append}
-use Rattle.rules.specs.Laws.Spelt.{SpeltName, SpeltCall, SpeltBlock, All}
+use Rattle.rules.proofs.Laws.Carried.{map-append}
+use Rattle.rules.proofs.Laws.Spelt.{SpeltName, SpeltCall, SpeltBlock, All}
 use Rattle.tape.specs.Layout.{pack, kind_of, BLOCK, BODY, IN, OUT, VAR, name_w, kind-of, value-of}
 use Rattle.tape.specs.Encoding.{list_w, stmts_w, decl_w, generic_w, block_w, blocks_w, callee_w}
 use Rattle.tape.specs.Resolved.{slot_w, meant_w}

@@ -15,9 +15,9 @@ use Rattle.rules.specs.Outcome.{Out, ok, refuse, ◌>>=◌, at, need, need_at}
 use Rattle.rules.specs.Syntax.{Name, Exp, Arg, whole, part, Stmts, end, call, loop, Spelled, Callee}
 use Rattle.rules.specs.Names.{Role, is_index, Scope, find, role_at, among, expression, expressions, argument, arguments}
 use Rattle.rules.specs.Resolve.{Wants, called, statements}
-use Rattle.rules.specs.Laws.Outcomes.{no_ok, ok-inj, inv, inv_at, both_yes}
-use Rattle.rules.specs.Laws.Spelt.{SpeltName, SpeltCall, All, AllExp, AllArg, AllStmts}
-use Rattle.rules.specs.Laws.Scoped.{found}
+use Rattle.rules.proofs.Laws.Outcomes.{no_ok, ok-inj, inv, inv_at, both_yes}
+use Rattle.rules.proofs.Laws.Spelt.{SpeltName, SpeltCall, All, AllExp, AllArg, AllStmts}
+use Rattle.rules.proofs.Laws.Scoped.{found}
 use Rattle.tape.specs.Layout.{pack, kind_of, value_of, CALL, INPUT, OUTPUT, LOOP, INDEX, BODY, name_w, kind-of, value-of}
 use Rattle.tape.specs.Encoding.{list_w, exp_w, arg_w, stmts_w, callee_w}
 use Rattle.tape.specs.Resolved.{slot_w, callee_number, meant_w}

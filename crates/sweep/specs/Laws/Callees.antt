@@ -13,8 +13,8 @@ use Rattle.rules.specs.Primitives.{primitive, inputs_of, primitive_names}
 use Rattle.rules.specs.Syntax.{Name, Decl, Block, Spelled, Callee, gate, block}
 use Rattle.rules.specs.Names.{Role, a-wire, is_wire, role_of}
 use Rattle.rules.specs.Resolve.{Wants, wanted_by, wanted_by_gate, called}
-use Rattle.rules.specs.Laws.Outcomes.{ok-inj, inv, at_ok}
-use Rattle.rules.specs.Laws.Scoped.{pick-or}
+use Rattle.rules.proofs.Laws.Outcomes.{ok-inj, inv, at_ok}
+use Rattle.rules.proofs.Laws.Scoped.{pick-or}
 use Rattle.tape.specs.Layout.{head_in}
 use Rattle.tape.specs.Resolved.{callee_number}
 use Rattle.sweep.specs.declared.Heading.{Heading}

@@ -14,8 +14,8 @@ use Rattle.rules.specs.Outcome.{Out, ok, refuse, ◌>>=◌, at, need, need_at}
 use Rattle.rules.specs.Syntax.{Name, Exp, number, name, neg, group, both, Sort, wire, vector, num, Decl}
 use Rattle.rules.specs.Names.{Role, a-generic, a-wire, a-vector, an-index, role_of, Entry, Scope, spellings, generic, declared, find, role_at, once, stands, expression}
 use Rattle.rules.specs.Resolve.{generics, sort, declarations}
-use Rattle.rules.specs.Laws.Carried.{map-append}
-use Rattle.rules.specs.Laws.Spelt.{SpeltName, SpeltCall, All, AllExp, AllSort, AllDecl}
+use Rattle.rules.proofs.Laws.Carried.{map-append}
+use Rattle.rules.proofs.Laws.Spelt.{SpeltName, SpeltCall, All, AllExp, AllSort, AllDecl}
 use Rattle.tape.specs.Layout.{pack, kind_of, head_in, GENERIC, name_w, kind-of, head-of}
 use Rattle.tape.specs.Encoding.{list_w, exp_w, sort_w, decl_w, generic_w}
 use Rattle.tape.specs.Resolved.{slot_w}

@@ -10,8 +10,8 @@ use Rattle.rules.specs.Text.{pick}
 use Rattle.rules.specs.Outcome.{Out, ok, refuse, ◌>>=◌, at, need, need_at}
 use Rattle.rules.specs.Syntax.{Name, Op, plus, minus, times, Exp, number, name, neg, group, both}
 use Rattle.rules.specs.Names.{Role, a-generic, a-wire, a-vector, an-index, Scope, find, role_at, among, stands, expression, expressions}
-use Rattle.rules.specs.Laws.Outcomes.{no_ok, ok-inj, inv, inv_at}
-use Rattle.rules.specs.Laws.Spelt.{SpeltName, SpeltCall, All, AllExp}
+use Rattle.rules.proofs.Laws.Outcomes.{no_ok, ok-inj, inv, inv_at}
+use Rattle.rules.proofs.Laws.Spelt.{SpeltName, SpeltCall, All, AllExp}
 use Rattle.tape.specs.Layout.{pack, kind_of, head_in, value_of, NUMBER, NAME, BRACKET, head_of, flip, name_w, kind-of, value-of, head-of}
 use Rattle.tape.specs.Encoding.{list_w, exp_w}
 use Rattle.tape.specs.Resolved.{slot_w}

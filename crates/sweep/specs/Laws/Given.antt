@@ -10,7 +10,7 @@ use Rattle.std.proofs.Math.ListN.{length, length-append}
 use borrow.Author.Tests.{eq-eqb, ne_eqb, lt-ltb, le-ltb, eqb-true, eqb-false}
 use Rattle.rules.specs.Text.{pick}
 use Rattle.rules.specs.Syntax.{Name, Op, plus, minus, times, Exp, number, name, neg, group, both, Arg, whole, part}
-use Rattle.rules.specs.Laws.Spelt.{SpeltName, SpeltCall, All, AllExp, AllArg}
+use Rattle.rules.proofs.Laws.Spelt.{SpeltName, SpeltCall, All, AllExp, AllArg}
 use Rattle.tape.specs.Layout.{pack, kind_of, head_in, value_of, NUMBER, NAME, BRACKET, head_of, flip, name_w, kind-of, value-of, head-of}
 use Rattle.tape.specs.Encoding.{list_w, exp_w, arg_w}
 use Rattle.sweep.specs.Sweep.{generics_given, in_call, given}

@@ -13,8 +13,8 @@ use Rattle.rules.specs.Text.{pick}
 use Rattle.rules.specs.Outcome.{Out, ok, refuse, nth}
 use Rattle.rules.specs.Syntax.{Name, Exp, Sort, wire, vector, num, Arg, whole, part, Stmts, end, call, loop, Decl, Block, Spelled}
 use Rattle.rules.specs.Names.{Role, a-wire, a-vector, is_wire, role_of}
-use Rattle.rules.specs.Laws.Outcomes.{no_ok, ok-inj}
-use Rattle.rules.specs.Laws.Spelt.{SpeltName, SpeltCall, SpeltBlock, All, AllExp, AllSort, AllArg, AllStmts, AllDecl}
+use Rattle.rules.proofs.Laws.Outcomes.{no_ok, ok-inj}
+use Rattle.rules.proofs.Laws.Spelt.{SpeltName, SpeltCall, SpeltBlock, All, AllExp, AllSort, AllArg, AllStmts, AllDecl}
 use Rattle.tape.specs.Layout.{pack, kind_of, head_in, CALL, INPUT, OUTPUT, LOOP, INDEX, BODY, BLOCK, GENERIC, IN, OUT, VAR, name_w, kind-of, head-of}
 use Rattle.tape.specs.Encoding.{list_w, exp_w, arg_w, stmts_w, sort_w, decl_w, generic_w, block_w, callee_w, tape_of}
 use Rattle.tape.specs.Written.{put}

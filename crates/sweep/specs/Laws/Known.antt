@@ -13,9 +13,9 @@ use Rattle.rules.specs.Text.{pick}
 use Rattle.rules.specs.Outcome.{Out, ok, refuse, nth}
 use Rattle.rules.specs.Syntax.{Name, Sort, wire, vector, num, Decl, Block, Spelled}
 use Rattle.rules.specs.Names.{Role, a-wire, is_wire, role_of}
-use Rattle.rules.specs.Laws.Outcomes.{no_ok, ok-inj}
-use Rattle.rules.specs.Laws.Scoped.{nth-below}
-use Rattle.rules.specs.Laws.Spelt.{SpeltName, SpeltBlock, All, AllDecl, SpeltCall}
+use Rattle.rules.proofs.Laws.Outcomes.{no_ok, ok-inj}
+use Rattle.rules.proofs.Laws.Scoped.{nth-below}
+use Rattle.rules.proofs.Laws.Spelt.{SpeltName, SpeltBlock, All, AllDecl, SpeltCall}
 use Rattle.tape.specs.Layout.{pack, kind_of, head_in, BLOCK, GENERIC, IN, OUT, name_w, kind-of, head-of}
 use Rattle.tape.specs.Encoding.{list_w}
 use Rattle.tape.specs.Written.{put}

@@ -5,7 +5,7 @@ use Rattle.rules.specs.Outcome.{ok}
 use Rattle.rules.specs.Syntax.{Name, Sort, wire, vector, num, Decl, Block, Spelled, Callee, Program}
 use Rattle.rules.specs.Names.{Scope, declared}
 use Rattle.rules.specs.Resolve.{sort, declarations, resolve_block, resolve_blocks, names}
-use Rattle.rules.specs.Laws.Outcomes.{ok-inj, inv, inv_at}
+use Rattle.rules.proofs.Laws.Outcomes.{ok-inj, inv, inv_at}
 use Rattle.tape.specs.Layout.{pack, BODY, IN, OUT, VAR, name_w}
 use Rattle.tape.specs.Encoding.{list_w, exp_w, stmts_w, sort_w, decl_w, generic_w, block_w, callee_w, tape_of}
 use Rattle.tape.specs.Resolved.{slot_w, meant_w, resolved_tape}

@@ -12,8 +12,8 @@ use Rattle.rules.specs.Outcome.{Out, ok, refuse, ◌>>=◌, at, need, need_at, n
 use Rattle.rules.specs.Syntax.{Name, Block, Spelled, Callee, Program}
 use Rattle.rules.specs.Names.{among}
 use Rattle.rules.specs.Resolve.{resolve_blocks, main_of, names}
-use Rattle.rules.specs.Laws.Outcomes.{nth-any}
-use Rattle.rules.specs.Laws.Spelt.{SpeltBlock, All}
+use Rattle.rules.proofs.Laws.Outcomes.{nth-any}
+use Rattle.rules.proofs.Laws.Spelt.{SpeltBlock, All}
 use Rattle.tape.specs.Layout.{pack, kind_of, BLOCK, GENERIC, name_w}
 use Rattle.tape.specs.Encoding.{list_w, block_w, blocks_w, callee_w, tape_of}
 use Rattle.tape.specs.Resolved.{slot_w, meant_w, resolved_tape}

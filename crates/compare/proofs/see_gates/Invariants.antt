@@ -1,0 +1,15 @@
+use Prim.Native.Nat.{◌-◌, ◌≤◌}
+use Rattle.compare.specs.Match.{Walking, match_is, begin-one, piece_is, apart, step, stop, finish}
+use Rattle.rules.specs.Flat.{gate_text, gates_text}
+use Rattle.write.specs.Pieces.{gates-begin, gates-open, gates-close}
+use borrow.Author.Rules.{rules}
+use mathlib.Core.List.{[], ◌∷◌}
+use mathlib.Core.Path.{ap}
+use native.Mathlib.Omega.{arith}
+use Rattle.compare.proofs.see_gates.Given as goal
+
+abbrev pub invariant-loop-i : goal.invariant-loop-i
+invariant-loop-i l = (l.i ≤ l.n) × Walking l.text l.at (gates_text l.net 0 l.n) (gates_text l.net l.i (l.n - l.i) ∷ []) l.p
+
+abbrev pub decreases-loop-i : goal.decreases-loop-i
+decreases-loop-i l = l.n - l.i

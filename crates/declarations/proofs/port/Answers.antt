@@ -1,0 +1,40 @@
+use Prim.Native.Nat.{◌-◌}
+use Rattle.declarations.specs.Parts.{port-off, port-got}
+use Rattle.marks.specs.Laws.One.{on, stop, passed}
+use Rattle.rules.specs.Grammar.{port as port_at}
+use borrow.Author.Rules.{rules}
+use mathlib.Core.Path.{◌∙◌}
+use native.Mathlib.Omega.{arith}
+use Rattle.declarations.proofs.port.Goals as goal
+
+pub returns-in_default : goal.returns-in_default
+unfolding port_at
+returns-in_default c = let p = c.in_default.is in rw p (stop _ _ _ (rw p at c.declared-f.ensures.tells), (tt, tt))
+
+pub mark-c-requires : goal.mark-c-requires
+mark-c-requires c = let o = rw c.in-Done.is at c.declared-f.ensures.named.0 in omega arith
+
+pub returns-in_default-c : goal.returns-in_default-c
+unfolding port_at
+returns-in_default-c c = let p = c.in_default-c.is in rw p (on _ _ _ (rw c.in-Done.is at c.declared-f.ensures.tells) ∙ stop _ _ _ (passed ":" _ _ (rw p at c.mark-c.ensures.tells)), (tt, tt))
+
+pub typed-s-requires : goal.typed-s-requires
+typed-s-requires c =
+    let o = rw c.in-Done.is at c.declared-f.ensures.named.0 in
+    let x = rw c.in-Done-c.is at c.mark-c.ensures.past in
+    omega (arith, c.requires)
+
+pub returns-in_default-s : goal.returns-in_default-s
+returns-in_default-s c =
+    let o = rw c.in-Done.is at c.declared-f.ensures.named.0 in
+    let p = c.in_default-s.is in
+    rw p (port-off _ 0 _ _ _ _ (rw c.in-Done.is at c.declared-f.ensures.tells) (omega arith) (passed ":" _ _ (rw c.in-Done-c.is at c.mark-c.ensures.tells)) (rw p at c.before.before.before.before.type-inv.ensures.0), (tt, tt))
+
+pub returns : goal.returns
+returns c =
+    let o = rw c.in-Done.is at c.declared-f.ensures.named.0 in
+    let x = rw c.in-Done-c.is at c.mark-c.ensures.past in
+    let y = rw c.in-Done-s.is at c.before.before.before.before.before.type-inv.ensures.1 in (
+      port-got _ _ _ _ _ _ (rw c.in-Done.is at c.declared-f.ensures.tells) (omega arith) (passed ":" _ _ (rw c.in-Done-c.is at c.mark-c.ensures.tells)) (rw c.in-Done-s.is at c.before.before.before.before.before.type-inv.ensures.0),
+      (omega arith, rw c.in-Done.is at c.declared-f.ensures.named.1),
+    )

@@ -1,0 +1,12 @@
+use Prim.Native.Nat.{◌-◌}
+use borrow.Author.Rules.{rules}
+use lib.ListN.{length, length-set}
+use mathlib.Core.Path.{refl, ◌≡◌}
+use native.Mathlib.Omega.{arith}
+use Rattle.drive.proofs.input.bytes.Given as goal
+
+abbrev pub invariant-loop-i : goal.invariant-loop-i
+invariant-loop-i l = length l.to ≡ length l.initial.to
+
+abbrev pub decreases-loop-i : goal.decreases-loop-i
+decreases-loop-i l = length l.initial.to - l.i

@@ -1,0 +1,12 @@
+use Prim.Native.Nat.{◌-◌, ◌≤◌}
+use borrow.Author.Rules.{rules}
+use lib.ListN.{length}
+use mathlib.Core.Path.{◌≡◌, refl, ◌∙◌}
+use native.Mathlib.Omega.{arith}
+use Rattle.pebble.proofs.read_all.Given as goal
+
+abbrev pub invariant-loop-have : goal.invariant-loop-have
+invariant-loop-have l = (length l.text ≡ length l.initial.text) × (l.have ≤ length l.text)
+
+abbrev pub decreases-loop-have : goal.decreases-loop-have
+decreases-loop-have l = length l.text - l.have

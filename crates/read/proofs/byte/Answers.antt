@@ -1,0 +1,6 @@
+use Rattle.read.specs.Ahead.{past_end}
+use borrow.Author.Rules.{rules}
+use Rattle.read.proofs.byte.Goals as goal
+
+pub returns : goal.returns
+returns c = past_end c.args.text.now c.args.at c.if-at-text.false

@@ -1,0 +1,13 @@
+use Prim.Native.Nat.{◌≤◌, ◌-◌}
+use Rattle.run.specs.Visits.{Begun, begun-none, begun_more}
+use borrow.Author.Rules.{rules}
+use lib.ListN.{length, length-set}
+use mathlib.Core.Path.{◌≡◌, refl}
+use native.Mathlib.Omega.{arith}
+use Rattle.run.proofs.start.Given as goal
+
+abbrev pub invariant-loop-i : goal.invariant-loop-i
+invariant-loop-i l = (length l.values ≡ length l.initial.values) × (l.i ≤ l.wires) × Begun l.inputs l.values l.i
+
+abbrev pub decreases-loop-i : goal.decreases-loop-i
+decreases-loop-i l = l.wires - l.i

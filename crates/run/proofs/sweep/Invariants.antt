@@ -1,0 +1,22 @@
+use Prim.Native.Nat.{ℕ, ◌≤◌, ◌-◌}
+use Rattle.rules.specs.Netlist.{gates}
+use Rattle.rules.specs.Run.{Inputs}
+use Rattle.run.specs.Going.{Going, Sweep, same}
+use Rattle.run.specs.Visits.{visited, sweep-more, sweep-is}
+use borrow.Author.Rules.{rules}
+use lib.ListN.{length}
+use mathlib.Core.Bool.{Bool}
+use mathlib.Core.List.{List}
+use mathlib.Core.Path.{◌≡◌, refl, ◌∙◌}
+use native.Mathlib.Omega.{arith}
+use Rattle.run.proofs.sweep.Given as goal
+
+-- what is true of the values after the first n visits
+abbrev pub Far : List ℕ → List ℕ → ℕ → Bool → List ℕ → Type 0
+Far w v₀ n c v = (ins : List ℕ) → Inputs w ins → Going w ins v₀ → Going w ins v × Sweep w v₀ n c v
+
+abbrev pub invariant-loop-i : goal.invariant-loop-i
+invariant-loop-i l = (length l.values ≡ length l.initial.values) × (l.i ≤ l.gates) × Far l.net l.initial.values l.i l.changed l.values
+
+abbrev pub decreases-loop-i : goal.decreases-loop-i
+decreases-loop-i l = l.gates - l.i

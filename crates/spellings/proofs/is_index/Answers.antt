@@ -1,0 +1,6 @@
+use Rattle.sweep.specs.Laws.Leaves.{is-index}
+use borrow.Author.Rules.{rules}
+use Rattle.spellings.proofs.is_index.Goals as goal
+
+pub returns : goal.returns
+returns c = is-index 0 _ _ c.role_of.ensures

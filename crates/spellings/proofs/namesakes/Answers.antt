@@ -1,0 +1,6 @@
+use mathlib.Core.Path.{◌≡◌}
+use borrow.Author.Rules.{rules}
+use Rattle.spellings.proofs.namesakes.Goals as goal
+
+pub returns : goal.returns
+returns c = rw (← c.letters.ensures, ← c.letters-2.ensures) c.alike.ensures

@@ -1,0 +1,6 @@
+use mathlib.Core.Path.{◌≡◌}
+use borrow.Author.Rules.{rules}
+use Rattle.spellings.proofs.spells.Goals as goal
+
+pub returns : goal.returns
+returns c = rw (← c.letters.ensures) c.alike.ensures

@@ -1,0 +1,45 @@
+use Prim.Native.Nat.{ℕ, ◌+◌, ◌-◌, ◌<◌}
+use Rattle.frames.specs.Runs.{Going, begin, next, onward, finish}
+use Rattle.rules.specs.Outcome.{ok}
+use Rattle.rules.specs.Syntax.{Name, Block, Callee}
+use Rattle.tape.specs.Encoding.{generic_w}
+use Rattle.tape.specs.Layout.{name_w}
+use Rattle.unfold.specs.Header.{HereBlock, here-generics, starts-generics, generics-many}
+use borrow.Author.Rules.{rules}
+use lib.ListN.{length}
+use mathlib.Core.List.{List, [], ◌∷◌, ◌++◌}
+use mathlib.Core.Path.{◌≡◌, refl, sym, ap, ◌∙◌}
+use native.Mathlib.Omega.{arith}
+use Rattle.unfold.proofs.after_generics.Goals as goal
+
+pub overflow_add-i : goal.overflow_add-i
+overflow_add-i c = let h = c.requires.here in let g = here-generics h in omega (arith, g.within, g.short)
+
+pub loop-i-init : goal.loop-i-init
+loop-i-init c = ([], 0, begin (here-generics h) h.generics)
+
+pub among-requires : goal.among-requires
+among-requires c = c.requires.here.limit
+
+pub overflow_add-i-in-loop-i : goal.overflow_add-i-in-loop-i
+overflow_add-i-in-loop-i c = let (f, k, g) = c.loop-i.invariant _ c.requires.here in omega (arith, g.listed.within, g.listed.short)
+
+pub loop-i-smaller : goal.loop-i-smaller
+unfolding generic_w
+loop-i-smaller c =
+    let (f, k, g) = c.loop-i.invariant _ c.requires.here in
+    let n = next starts-generics g (sym c.among.ensures ∙ c.loop-i-test.true) in
+    omega (arith, n.alone.within)
+
+pub loop-i-preserved : goal.loop-i-preserved
+unfolding generic_w
+loop-i-preserved c =
+    let (f, k, g) = c.loop-i.invariant B h in
+    let n = next starts-generics g (sym c.among.ensures ∙ c.loop-i-test.true) in
+    (f ++ (n.item ∷ []), k + 1, onward starts-generics g n refl)
+
+pub returns : goal.returns
+returns c =
+    let (f, k, g) = c.loop-i.invariant B h in
+    let e = finish starts-generics g (sym c.among.ensures ∙ c.loop-i-test.false) in
+    (e.1, omega (arith, e.1, generics-many B.generics))

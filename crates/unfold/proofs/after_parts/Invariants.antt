@@ -1,0 +1,14 @@
+use Prim.Native.Nat.{ℕ, ◌+◌, ◌-◌}
+use Rattle.unfold.specs.Quiet.{Calm, Ahead, ahead-begin, ahead-end, ahead-on}
+use borrow.Author.Rules.{rules}
+use mathlib.Core.List.{List}
+use mathlib.Core.Logic.{inl, inr}
+use mathlib.Core.Path.{◌≡◌, refl, sym, ap, ◌∙◌}
+use native.Mathlib.Omega.{arith}
+use Rattle.unfold.proofs.after_parts.Given as goal
+
+abbrev pub invariant-loop-i : goal.invariant-loop-i
+invariant-loop-i l = (ws : List ℕ) → Calm l.tape l.at l.end ws → Ahead l.tape l.at l.end ws l.i
+
+abbrev pub decreases-loop-i : goal.decreases-loop-i
+decreases-loop-i l = l.end - l.i

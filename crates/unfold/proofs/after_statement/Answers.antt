@@ -1,0 +1,29 @@
+use mathlib.Core.Path.{◌≡◌, sym, ◌∙◌}
+use native.Mathlib.Omega.{arith}
+use borrow.Author.Rules.{rules}
+use borrow.Author.Tests.{not-true, not-false}
+use Rattle.unfold.specs.Onward.{onward, beyond, calm_of}
+use Rattle.unfold.proofs.after_statement.Goals as goal
+
+pub overflow_add-at : goal.overflow_add-at
+overflow_add-at c = omega (arith, c.requires.some, c.requires.here.short)
+
+pub after_parts-i-requires : goal.after_parts-i-requires
+after_parts-i-requires c = calm_of c.requires
+
+pub among-requires : goal.among-requires
+among-requires c = c.requires.here.limit
+
+pub after_body-requires : goal.after_body-requires
+after_body-requires c =
+    let w = c.requires in
+    let l = (beyond w.text w.statements w.here w.some c.after_parts-i.ensures (sym c.among.ensures ∙ c.if-among.true)).0 in
+    (omega (arith, l, w.here.limit), omega (arith, l, w.here.short))
+
+pub returns-then-among : goal.returns-then-among
+returns-then-among c =
+    let r = beyond len b h s c.after_parts-i.ensures (sym c.among.ensures ∙ c.if-among.true) in
+    rw c.after_body.ensures (r.1, r.2)
+
+pub returns : goal.returns
+returns c = onward len b h s c.after_parts-i.ensures (sym c.among.ensures ∙ c.if-among.false)

@@ -1,0 +1,16 @@
+use Prim.Native.Nat.{◌-◌, ◌≤◌}
+use Rattle.rules.specs.Flat.{gate_text, gates_text}
+use Rattle.write.specs.Pieces.{gates-begin, gates-open, gates-close}
+use Rattle.write.specs.Put.{Writing, put_is, room_as, begin-one, piece_is, apart, step, room_of, finish}
+use borrow.Author.Rules.{rules}
+use lib.ListN.{length}
+use mathlib.Core.List.{[], ◌∷◌}
+use mathlib.Core.Path.{◌≡◌, refl, ap, ◌∙◌}
+use native.Mathlib.Omega.{arith}
+use Rattle.write.proofs.put_gates.Given as goal
+
+abbrev pub invariant-loop-i : goal.invariant-loop-i
+invariant-loop-i l = (length l.text ≡ length l.initial.text) × (l.i ≤ l.n) × Writing l.initial.text l.at (gates_text l.net 0 l.n) (gates_text l.net l.i (l.n - l.i) ∷ []) l.p l.text
+
+abbrev pub decreases-loop-i : goal.decreases-loop-i
+decreases-loop-i l = l.n - l.i
