@@ -1,7 +1,7 @@
 // Standard input, byte by byte through a buffer. `seen` holds where the next byte stands in the buffer, and where the last read ended.
 ghost use Rattle.std.specs.Prelude.{◌<◌, ◌≡◌};
 
-use libc::STDIN_FILENO;
+use std::io::Read;
 
 // What `next` answers where the input has ended.
 const ENDED: usize = 256;
@@ -15,24 +15,23 @@ fn wide(b: u8) -> usize
     b as usize
 }
 
-fn fill(buffer: &mut [u8]) -> usize {
-    let got = libc::read(STDIN_FILENO, buffer);
-    io::count(got, buffer)
+fn fill(rt: HostRuntime, buffer: &mut [u8]) -> usize {
+    rt.stdin().read(buffer).unwrap_or(0)
 }
 
 // Reads on where every byte that came has been taken.
-fn refill(buffer: &mut [u8; 4096], seen: &mut [usize; 2]) {
+fn refill(rt: HostRuntime, buffer: &mut [u8; 4096], seen: &mut [usize; 2]) {
     if seen[0] < seen[1] {
         return;
     }
-    let n = fill(buffer);
+    let n = fill(rt, buffer);
     seen[0] = 0;
     seen[1] = n;
 }
 
 // One byte, or 256 at the input's end.
-pub fn next(buffer: &mut [u8; 4096], seen: &mut [usize; 2]) -> usize {
-    refill(buffer, seen);
+pub fn next(rt: HostRuntime, buffer: &mut [u8; 4096], seen: &mut [usize; 2]) -> usize {
+    refill(rt, buffer, seen);
     let at = seen[0];
     if at < seen[1] {
         if at < 4096 {
@@ -44,10 +43,15 @@ pub fn next(buffer: &mut [u8; 4096], seen: &mut [usize; 2]) -> usize {
 }
 
 // Whether these bytes come next.
-pub fn expect(buffer: &mut [u8; 4096], seen: &mut [usize; 2], word: &[u8]) -> bool {
+pub fn expect(
+    rt: HostRuntime,
+    buffer: &mut [u8; 4096],
+    seen: &mut [usize; 2],
+    word: &[u8],
+) -> bool {
     let mut i = 0;
     while i < word.len() {
-        if next(buffer, seen) != wide(word[i]) {
+        if next(rt, buffer, seen) != wide(word[i]) {
             return false;
         }
         i += 1;
@@ -73,11 +77,16 @@ fn found(value: usize, none: bool) -> usize {
 }
 
 // The decimal number that comes next, with the byte `end` right behind it.
-pub fn number(buffer: &mut [u8; 4096], seen: &mut [usize; 2], end: usize) -> usize {
+pub fn number(
+    rt: HostRuntime,
+    buffer: &mut [u8; 4096],
+    seen: &mut [usize; 2],
+    end: usize,
+) -> usize {
     let mut value: usize = 0;
     let mut left = usize::MAX;
     while left > 0 {
-        let b = next(buffer, seen);
+        let b = next(rt, buffer, seen);
         if b == end {
             return found(value, left == usize::MAX);
         }
@@ -94,10 +103,15 @@ pub fn number(buffer: &mut [u8; 4096], seen: &mut [usize; 2], end: usize) -> usi
 }
 
 // Fills lent memory; whether the input had enough.
-pub fn bytes(buffer: &mut [u8; 4096], seen: &mut [usize; 2], to: &mut [u8]) -> bool {
+pub fn bytes(
+    rt: HostRuntime,
+    buffer: &mut [u8; 4096],
+    seen: &mut [usize; 2],
+    to: &mut [u8],
+) -> bool {
     let mut i = 0;
     while i < to.len() {
-        let b = next(buffer, seen);
+        let b = next(rt, buffer, seen);
         if b > 255 {
             return false;
         }
@@ -108,11 +122,16 @@ pub fn bytes(buffer: &mut [u8; 4096], seen: &mut [usize; 2], to: &mut [u8]) -> b
 }
 
 // The same for words, the low byte first.
-pub fn words(buffer: &mut [u8; 4096], seen: &mut [usize; 2], to: &mut [u16]) -> bool {
+pub fn words(
+    rt: HostRuntime,
+    buffer: &mut [u8; 4096],
+    seen: &mut [usize; 2],
+    to: &mut [u16],
+) -> bool {
     let mut i = 0;
     while i < to.len() {
-        let low = next(buffer, seen);
-        let high = next(buffer, seen);
+        let low = next(rt, buffer, seen);
+        let high = next(rt, buffer, seen);
         if low > 255 {
             return false;
         }

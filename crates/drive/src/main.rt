@@ -105,55 +105,75 @@ fn widen(values: &[u8], words: &mut [u16]) {
 }
 
 fn show_flatten(
+    rt: HostRuntime,
     answer: Flattened,
     work: &[u32],
     net: &[u16],
     to: &mut [u8; 4096],
     used: &mut [usize; 1],
 ) {
-    output::bytes(to, used, b"flatten");
-    output::number(to, used, answer.number);
-    output::number(to, used, answer.place);
-    output::number(to, used, answer.steps);
-    output::number(to, used, words_left(work));
-    output::words(to, used, b"\nwords", net);
+    output::bytes(rt, to, used, b"flatten");
+    output::number(rt, to, used, answer.number);
+    output::number(rt, to, used, answer.place);
+    output::number(rt, to, used, answer.steps);
+    output::number(rt, to, used, words_left(work));
+    output::words(rt, to, used, b"\nwords", net);
 }
 
-fn show_run(answer: Shown, values: &[u8], to: &mut [u8; 4096], used: &mut [usize; 1]) {
-    output::bytes(to, used, b"run");
-    output::number(to, used, answer.number);
+fn show_run(
+    rt: HostRuntime,
+    answer: Shown,
+    values: &[u8],
+    to: &mut [u8; 4096],
+    used: &mut [usize; 1],
+) {
+    output::bytes(rt, to, used, b"run");
+    output::number(rt, to, used, answer.number);
     let mut space = [0u16; VALUES];
     let words: &mut [u16] = &mut space;
     widen(values, words);
-    output::words(to, used, b"\nvalues", words);
+    output::words(rt, to, used, b"\nvalues", words);
 }
 
 // The first `n` bytes of a text.
-fn show_front(text: &[u8], n: usize, to: &mut [u8; 4096], used: &mut [usize; 1]) {
+fn show_front(rt: HostRuntime, text: &[u8], n: usize, to: &mut [u8; 4096], used: &mut [usize; 1]) {
     if n <= text.len() {
-        output::bytes(to, used, &text[..n]);
+        output::bytes(rt, to, used, &text[..n]);
     }
 }
 
-fn show_write(answer: Shown, text: &[u8], to: &mut [u8; 4096], used: &mut [usize; 1]) {
+fn show_write(
+    rt: HostRuntime,
+    answer: Shown,
+    text: &[u8],
+    to: &mut [u8; 4096],
+    used: &mut [usize; 1],
+) {
     let n = answer.length;
-    output::bytes(to, used, b"write");
-    output::number(to, used, answer.number);
-    output::number(to, used, n);
-    output::number(to, used, bytes_left(text, n));
-    output::bytes(to, used, b"\ntext\n");
-    show_front(text, n, to, used);
+    output::bytes(rt, to, used, b"write");
+    output::number(rt, to, used, answer.number);
+    output::number(rt, to, used, n);
+    output::number(rt, to, used, bytes_left(text, n));
+    output::bytes(rt, to, used, b"\ntext\n");
+    show_front(rt, text, n, to, used);
 }
 
-fn show_read(answer: Shown, net: &[u16], to: &mut [u8; 4096], used: &mut [usize; 1]) {
-    output::bytes(to, used, b"read");
-    output::number(to, used, answer.number);
-    output::words(to, used, b"\nwords", net);
+fn show_read(
+    rt: HostRuntime,
+    answer: Shown,
+    net: &[u16],
+    to: &mut [u8; 4096],
+    used: &mut [usize; 1],
+) {
+    output::bytes(rt, to, used, b"read");
+    output::number(rt, to, used, answer.number);
+    output::words(rt, to, used, b"\nwords", net);
 }
 
 // Each job, in memory that is lent to it: what it is given comes from the input, what it answers goes to the output. False where the input is
 // too short.
 fn on_flatten(
+    rt: HostRuntime,
     from: &mut [u8; 4096],
     seen: &mut [usize; 2],
     text: &mut [u8],
@@ -162,15 +182,16 @@ fn on_flatten(
     to: &mut [u8; 4096],
     used: &mut [usize; 1],
 ) -> bool {
-    if !input::bytes(from, seen, text) {
+    if !input::bytes(rt, from, seen, text) {
         return false;
     }
     let answer = flatten::flatten(text, work, net);
-    show_flatten(answer, work, net, to, used);
+    show_flatten(rt, answer, work, net, to, used);
     true
 }
 
 fn on_run(
+    rt: HostRuntime,
     from: &mut [u8; 4096],
     seen: &mut [usize; 2],
     net: &mut [u16],
@@ -179,18 +200,19 @@ fn on_run(
     to: &mut [u8; 4096],
     used: &mut [usize; 1],
 ) -> bool {
-    if !input::words(from, seen, net) {
+    if !input::words(rt, from, seen, net) {
         return false;
     }
-    if !input::bytes(from, seen, inputs) {
+    if !input::bytes(rt, from, seen, inputs) {
         return false;
     }
     let answer = tell(run::run(net, inputs, values));
-    show_run(answer, values, to, used);
+    show_run(rt, answer, values, to, used);
     true
 }
 
 fn on_write(
+    rt: HostRuntime,
     from: &mut [u8; 4096],
     seen: &mut [usize; 2],
     net: &mut [u16],
@@ -198,15 +220,16 @@ fn on_write(
     to: &mut [u8; 4096],
     used: &mut [usize; 1],
 ) -> bool {
-    if !input::words(from, seen, net) {
+    if !input::words(rt, from, seen, net) {
         return false;
     }
     let answer = tell(write::write(net, text));
-    show_write(answer, text, to, used);
+    show_write(rt, answer, text, to, used);
     true
 }
 
 fn on_read(
+    rt: HostRuntime,
     from: &mut [u8; 4096],
     seen: &mut [usize; 2],
     text: &mut [u8],
@@ -214,24 +237,25 @@ fn on_read(
     to: &mut [u8; 4096],
     used: &mut [usize; 1],
 ) -> bool {
-    if !input::bytes(from, seen, text) {
+    if !input::bytes(rt, from, seen, text) {
         return false;
     }
     let answer = tell(read::read(text, net));
-    show_read(answer, net, to, used);
+    show_read(rt, answer, net, to, used);
     true
 }
 
 // `WORK NET LEN`, and a text. False where the command is bad.
 fn flatten_command(
+    rt: HostRuntime,
     from: &mut [u8; 4096],
     seen: &mut [usize; 2],
     to: &mut [u8; 4096],
     used: &mut [usize; 1],
 ) -> bool {
-    let work = input::number(from, seen, 32);
-    let net = input::number(from, seen, 32);
-    let len = input::number(from, seen, 10);
+    let work = input::number(rt, from, seen, 32);
+    let net = input::number(rt, from, seen, 32);
+    let len = input::number(rt, from, seen, 10);
     if WORK < work {
         return false;
     }
@@ -245,6 +269,7 @@ fn flatten_command(
     let mut table = [OLD_LONG; WORK];
     let mut words = [OLD_WORD; NET];
     on_flatten(
+        rt,
         from,
         seen,
         &mut text[..len],
@@ -257,14 +282,15 @@ fn flatten_command(
 
 // `VALUES WORDS INPUTS`, a netlist's words, and inputs.
 fn run_command(
+    rt: HostRuntime,
     from: &mut [u8; 4096],
     seen: &mut [usize; 2],
     to: &mut [u8; 4096],
     used: &mut [usize; 1],
 ) -> bool {
-    let wires = input::number(from, seen, 32);
-    let net = input::number(from, seen, 32);
-    let bits = input::number(from, seen, 10);
+    let wires = input::number(rt, from, seen, 32);
+    let net = input::number(rt, from, seen, 32);
+    let bits = input::number(rt, from, seen, 10);
     if VALUES < wires {
         return false;
     }
@@ -278,6 +304,7 @@ fn run_command(
     let mut inputs = [OLD_BYTE; VALUES];
     let mut values = [OLD_BYTE; VALUES];
     on_run(
+        rt,
         from,
         seen,
         &mut words[..net],
@@ -290,13 +317,14 @@ fn run_command(
 
 // `TEXT WORDS`, and a netlist's words.
 fn write_command(
+    rt: HostRuntime,
     from: &mut [u8; 4096],
     seen: &mut [usize; 2],
     to: &mut [u8; 4096],
     used: &mut [usize; 1],
 ) -> bool {
-    let len = input::number(from, seen, 32);
-    let net = input::number(from, seen, 10);
+    let len = input::number(rt, from, seen, 32);
+    let net = input::number(rt, from, seen, 10);
     if TEXT < len {
         return false;
     }
@@ -305,18 +333,27 @@ fn write_command(
     }
     let mut words = [OLD_WORD; NET];
     let mut text = [OLD_BYTE; TEXT];
-    on_write(from, seen, &mut words[..net], &mut text[..len], to, used)
+    on_write(
+        rt,
+        from,
+        seen,
+        &mut words[..net],
+        &mut text[..len],
+        to,
+        used,
+    )
 }
 
 // `NET LEN`, and a text.
 fn read_command(
+    rt: HostRuntime,
     from: &mut [u8; 4096],
     seen: &mut [usize; 2],
     to: &mut [u8; 4096],
     used: &mut [usize; 1],
 ) -> bool {
-    let net = input::number(from, seen, 32);
-    let len = input::number(from, seen, 10);
+    let net = input::number(rt, from, seen, 32);
+    let len = input::number(rt, from, seen, 10);
     if NET < net {
         return false;
     }
@@ -325,11 +362,20 @@ fn read_command(
     }
     let mut text = [OLD_BYTE; TEXT];
     let mut words = [OLD_WORD; NET];
-    on_read(from, seen, &mut text[..len], &mut words[..net], to, used)
+    on_read(
+        rt,
+        from,
+        seen,
+        &mut text[..len],
+        &mut words[..net],
+        to,
+        used,
+    )
 }
 
 // The command whose first letter was taken.
 fn command(
+    rt: HostRuntime,
     first: usize,
     from: &mut [u8; 4096],
     seen: &mut [usize; 2],
@@ -337,52 +383,54 @@ fn command(
     used: &mut [usize; 1],
 ) -> bool {
     if first == 102 {
-        return input::expect(from, seen, b"latten ") && flatten_command(from, seen, to, used);
+        return input::expect(rt, from, seen, b"latten ")
+            && flatten_command(rt, from, seen, to, used);
     }
     if first == 119 {
-        return input::expect(from, seen, b"rite ") && write_command(from, seen, to, used);
+        return input::expect(rt, from, seen, b"rite ") && write_command(rt, from, seen, to, used);
     }
     if first != 114 {
         return false;
     }
-    let second = input::next(from, seen);
+    let second = input::next(rt, from, seen);
     if second == 117 {
-        return input::expect(from, seen, b"n ") && run_command(from, seen, to, used);
+        return input::expect(rt, from, seen, b"n ") && run_command(rt, from, seen, to, used);
     }
     if second != 101 {
         return false;
     }
-    input::expect(from, seen, b"ad ") && read_command(from, seen, to, used)
+    input::expect(rt, from, seen, b"ad ") && read_command(rt, from, seen, to, used)
 }
 
 // One command: false where the input has ended or the command is bad.
 fn turn(
+    rt: HostRuntime,
     from: &mut [u8; 4096],
     seen: &mut [usize; 2],
     to: &mut [u8; 4096],
     used: &mut [usize; 1],
 ) -> bool {
-    let first = input::next(from, seen);
+    let first = input::next(rt, from, seen);
     if first > 255 {
-        output::flush(to, used);
+        output::flush(rt, to, used);
         return false;
     }
-    if command(first, from, seen, to, used) {
+    if command(rt, first, from, seen, to, used) {
         return true;
     }
-    output::bytes(to, used, b"drive: bad command\n");
-    output::flush(to, used);
+    output::bytes(rt, to, used, b"drive: bad command\n");
+    output::flush(rt, to, used);
     false
 }
 
 // A proved loop has to end, and nothing says that the input does: the turns are counted down from a number that no run uses up.
-fn main() {
+fn main(rt: HostRuntime) {
     let mut from = [0u8; 4096];
     let mut seen = [0usize; 2];
     let mut to = [0u8; 4096];
     let mut used = [0usize; 1];
     let mut turns = u64::MAX;
-    while turns > 0 && turn(&mut from, &mut seen, &mut to, &mut used) {
+    while turns > 0 && turn(rt, &mut from, &mut seen, &mut to, &mut used) {
         turns -= 1;
     }
 }

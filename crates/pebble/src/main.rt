@@ -2,15 +2,14 @@
 #![tactic(auto)]
 
 ghost use Rattle.std.specs.Prelude.{◌+◌, ◌-◌, ◌≤◌, ◌≡◌, length, take};
-ghost use Rattle.io.specs.Counts.{IsPrefixLen};
 ghost use Rattle.write.specs.Put.{Put};
 ghost use Rattle.pebble.specs.Decimal.{decimal};
 ghost use Rattle.pebble.specs.Printed.{refused_text, Says, Prints};
 ghost use Rattle.pebble.specs.Reads.{Within};
 
 use flatten::Flattened;
-use libc::{STDERR_FILENO, STDIN_FILENO, STDOUT_FILENO};
 use netlist::Answer;
+use std::io::{Read, Write};
 
 // A number in decimal, with no zero before it; the place after it.
 fn put_number(line: &mut [u8], at: usize, n: usize) -> usize
@@ -68,26 +67,26 @@ enum Came {
 }
 
 // One read, behind the bytes that have come before: so many more came, none at the input's end.
-fn read_on(text: &mut [u8], have: usize) -> Came
+fn read_on(rt: HostRuntime, text: &mut [u8], have: usize) -> Came
     requires { have ≤ length text.old }
     ensures within { Within (length text.old - have) result }
     ensures text_unchanged { take have text.new ≡ take have text.old }
 {
     let rest = &mut text[have..];
-    let got = libc::read(STDIN_FILENO, rest);
-    if got < 0 {
-        return Came::Failed;
+    let got = rt.stdin().read(rest);
+    match got {
+        Ok(n) => Came::Bytes(n),
+        Err(_) => Came::Failed,
     }
-    Came::Bytes(io::count(got, rest))
 }
 
 // Reads until the input ends or the buffer is full, however small the pieces are that come.
-fn read_all(text: &mut [u8]) -> Came
+fn read_all(rt: HostRuntime, text: &mut [u8]) -> Came
     ensures { Within (length text.new) result }
 {
     let mut have = 0;
     while have < text.len() {
-        let came = read_on(text, have);
+        let came = read_on(rt, text, have);
         let Came::Bytes(more) = came else {
             return Came::Failed;
         };
@@ -99,26 +98,27 @@ fn read_all(text: &mut [u8]) -> Came
     Came::Bytes(have)
 }
 
-fn complain(line: &[u8]) {
-    io::write_all(STDERR_FILENO, line);
+fn complain(rt: HostRuntime, line: &[u8]) {
+    let _ = rt.stderr().write_all(line);
 }
 
 // Prints the answer to a text.
-fn answer(text: &[u8]) {
+fn answer(rt: HostRuntime, text: &[u8]) {
     let mut out = [0u8; 65536];
     let n = print(text, &mut out);
-    if !io::write_all(STDOUT_FILENO, &out[..n]) {
-        complain(b"pebble: standard output cannot be written\n");
+    let wrote = rt.stdout().write_all(&out[..n]);
+    if wrote.is_err() {
+        complain(rt, b"pebble: standard output cannot be written\n");
     }
 }
 
 // One byte more than the longest text is read: that it came tells that a text is too long.
-fn main() {
+fn main(rt: HostRuntime) {
     let mut space = [0u8; 16385];
-    let came = read_all(&mut space);
+    let came = read_all(rt, &mut space);
     let Came::Bytes(n) = came else {
-        complain(b"pebble: standard input cannot be read\n");
+        complain(rt, b"pebble: standard input cannot be read\n");
         return;
     };
-    answer(&space[..n]);
+    answer(rt, &space[..n]);
 }
