@@ -1,5 +1,5 @@
 -- What stands at a place of a text, and pieces seen one after the other. Assumes nothing.
-use Rattle.std.specs.Prelude.{◌≡◌, refl, List, [], ◌∷◌, ◌++◌, ℕ, ◌+◌, ◌-◌, ◌≤◌, ◌<◌}
+use Rattle.std.specs.Prelude.{◌≡◌, refl, List, [], ◌∷◌, ◌++◌, ℕ, ◌+◌, ◌≤◌, ◌<◌}
 use Rattle.std.proofs.Common.{sym, ap, subst, ◌∙◌, append_assoc, append-nil, arith, drop-drop, get_or-drop, length-take-le, get_or-take, ext_get_or}
 use lib.ListN.{get_or, length, take, drop, length-append, length-drop, get_or-append}
 use Rattle.std.proofs.Math.Seq.{drop-append_seam, drop-length}

@@ -1,5 +1,5 @@
 -- What stands next in a text, by the number of a mark or reserved word (`key` of the rules gives it). Assumes nothing.
-use Rattle.std.specs.Prelude.{◌≡◌, ℕ, ◌+◌, ◌≤◌, ◌<◌, Bool, true, false, List, [], ◌∷◌, get_or, eqb}
+use Rattle.std.specs.Prelude.{◌≡◌, ℕ, Bool, true, false, List, eqb}
 use Rattle.rules.specs.declared.Word.{Word}
 use Rattle.rules.specs.declared.Word.TheVariants.{Bad, Name as Named, Number, Mark}
 use Rattle.rules.specs.Text.{pick}

@@ -15,7 +15,7 @@ use Rattle.tape.specs.Resolved.{resolved_tape}
 use Rattle.tape.specs.Written.{put_is}
 use Rattle.tape.specs.Lies.{Lies, lies-front}
 use Rattle.sweep.specs.Resolves.{Holds, Right}
-use Rattle.sweep.specs.Laws.Lengths.{tape-length}
+use Rattle.sweep.proofs.Laws.Lengths.{tape-length}
 use Rattle.places.specs.Held.{Held}
 
 -- the text is this program

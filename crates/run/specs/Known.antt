@@ -5,7 +5,7 @@ use Rattle.std.proofs.Math.Decide.{dec_lt}
 use Rattle.rules.specs.Netlist.{wires, WellFormed}
 use Rattle.rules.specs.Run.{to_byte, from_byte, Shown, settled, unsettled, Shows}
 use Rattle.rules.proofs.Laws.Runs.{functional}
-use Rattle.netlist.specs.Answers.{Told, done, refused}
+use Rattle.netlist.specs.Answers.{Told}
 use Rattle.run.specs.Ran.{Ran, short-values, bad-netlist, wrong-inputs, ran}
 
 module _ (w : List ℕ) (wf : WellFormed w) (ins : List ℕ) where

@@ -169,9 +169,9 @@ module _ (w : List ℕ) (wf : WellFormed w) (ins : List ℕ) (ok : Inputs w ins)
   all_known g low-none none = Rattle.rules.specs.Run.none
   all_known g (low-more {i} l ls) (more r rs) = Rattle.rules.specs.Run.more (g.sound i l r) (all_known g ls rs)
 
-  pub visited : {v u : List ℕ} {j : ℕ} {r : Bool} → 1536 ≤ length v → j < gates w → Going w ins v → Visit w v j r u → Going w ins u
+  pub visited : {v : List ℕ} {j : ℕ} {u : List ℕ} {r : Bool} → 1536 ≤ length v → j < gates w → Going w ins v → Visit w v j r u → Going w ins u
   visited l h g (stays s) = g
-  visited {v} {u} {j} l h g (settles t r) =
+  visited {v} {j} {u} l h g (settles t r) =
       let f = wf.fine j h in
       let o = (gate_at w j).out in
       let m = makes (gate_at w j).kind (bits_at v (inputs_at (gate_at w j))) in
@@ -184,10 +184,10 @@ module _ (w : List ℕ) (wf : WellFormed w) (ins : List ℕ) (ok : Inputs w ins)
         rest = λ i a. set_at v o _ i (λ (b : ℕ). b ≡ 0) lo (λ e. absurd (omega (arith, f.out))) (λ n. g.rest i a);
       }
 
-  pub sweep-more : {v₀ v u : List ℕ} {n : ℕ} {c r : Bool} → 1536 ≤ length v → n < gates w → Sweep w v₀ n c v → Visit w v n r u → Sweep w v₀ (n + 1) (r || c) u
+  pub sweep-more : {v₀ v : List ℕ} {n : ℕ} {u : List ℕ} {c r : Bool} → 1536 ≤ length v → n < gates w → Sweep w v₀ n c v → Visit w v n r u → Sweep w v₀ (n + 1) (r || c) u
   sweep-more l h (same f) (stays s) = same (below_more _ _ f s)
   sweep-more l h (fewer f) (stays s) = fewer f
-  sweep-more {v₀} {v} {u} {n} {c} l h d (settles t r) =
+  sweep-more {v₀} {v} {n} {u} {c} l h d (settles t r) =
       let lo : (gate_at w n).out < length v = omega (arith, (wf.fine n h).out, wf.few-wires) in
       fewer (less-twos w v₀ v n _ c d (set-twos v (gate_at w n).out _ lo t (byte-below _)))
 
@@ -195,6 +195,7 @@ module _ (w : List ℕ) (wf : WellFormed w) (ins : List ℕ) (ok : Inputs w ins)
 
   module _ (v : List ℕ) (go : Going w ins v) (closed : (j : ℕ) → j < gates w → Still w v j) where
     wants-not : {is : List ℕ} → Ready v is → Wants v is → ⊥
+    wants-not none u = elim u [ ]
     wants-not (more n r) (here e) = n e
     wants-not (more n r) (later u) = wants-not r u
 

@@ -1,4 +1,3 @@
 pub mod Spelling
 pub mod Sweep
 pub mod Resolves
-pub mod Laws

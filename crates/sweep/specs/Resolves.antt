@@ -1,6 +1,6 @@
 -- What resolving the names of a tape answers and leaves. Assumes nothing.
 use Rattle.std.specs.Prelude.{◌≡◌, List, ℕ, ◌≤◌, length}
-use Rattle.rules.specs.Outcome.{Out, ok, refuse}
+use Rattle.rules.specs.Outcome.{ok, refuse}
 use Rattle.rules.specs.Syntax.{Spelled, Program}
 use Rattle.rules.specs.Resolve.{names}
 use Rattle.rules.proofs.Laws.Spelt.{SpeltBlock, All}

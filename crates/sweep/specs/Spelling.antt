@@ -1,5 +1,5 @@
 -- What a word of the tape says of a name: its place, its letters in the text s, and, where it is declared, its role. Assumes nothing.
-use Rattle.std.specs.Prelude.{ℕ, ◌+◌, ◌*◌, ◌/◌, ◌%◌, List, [], ◌∷◌, map, take, drop, eqb}
+use Rattle.std.specs.Prelude.{ℕ, ◌+◌, ◌*◌, ◌/◌, ◌%◌, List, map, take, drop, eqb}
 use Rattle.rules.specs.Text.{pick}
 use Rattle.rules.specs.Syntax.{Name}
 use Rattle.rules.specs.Names.{Role, a-generic, a-wire, a-vector, an-index, Entry, Scope}

@@ -1,9 +1,9 @@
 -- The sweep over the words of a tape, from the first to the last: what becomes of each word, or the refusal that it gives. Assumes nothing.
-use Rattle.std.specs.Prelude.{ℕ, zero, suc, ◌+◌, ◌*◌, ◌-◌, ◌<◌, ◌≤◌, min, max, ◌≡◌, Bool, true, false, not, ◌&&◌, ◌||◌, List, [], ◌∷◌, ◌++◌, map, length, get_or, set, take, drop, eqb, ltb}
+use Rattle.std.specs.Prelude.{ℕ, suc, ◌+◌, ◌*◌, ◌-◌, ◌<◌, ◌≤◌, min, max, ◌≡◌, Bool, true, false, not, ◌&&◌, ◌||◌, List, [], ◌∷◌, ◌++◌, map, length, get_or, set, take, drop, eqb, ltb}
 use Rattle.rules.specs.Text.{bytes, pick, index_of, is_in}
-use Rattle.rules.specs.Outcome.{Out, ok, refuse, ◌>>=◌, at, need, need_at}
+use Rattle.rules.specs.Outcome.{Out, ok, refuse, ◌>>=◌, need_at}
 use Rattle.rules.specs.Primitives.{inputs_of, primitive_names}
-use Rattle.rules.specs.Names.{Role, a-generic, a-wire, a-vector, an-index, is_wire, is_vector, is_index, Scope, find, role_at, once}
+use Rattle.rules.specs.Names.{Role, a-generic, a-wire, a-vector, an-index, is_wire, is_vector, is_index, find, role_at, once}
 use Rattle.tape.specs.Layout.{kind_of, head_in, value_of, NAME, BRACKET, CALL, INPUT, OUTPUT, INDEX, BODY, BLOCK, GENERIC, IN, OUT}
 use Rattle.sweep.specs.declared.Spot.{Spot}
 use Rattle.sweep.specs.declared.Heading.{Heading}

@@ -1,7 +1,6 @@
-// The sweep that resolves the names of a tape, word by word, stands in specs/Sweep; specs/Laws prove that it is the rule for names.
+// The sweep that resolves the names of a tape, word by word, stands in specs/Sweep; proofs/Laws prove that it is the rule for names.
 // These are the types of its answers.
 #![tactic(auto)]
-
 
 // What is known where a word stands, beside the words of the declared names and the ends of loops.
 #[derive(Clone, Copy)]

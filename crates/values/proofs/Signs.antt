@@ -1,14 +1,14 @@
 -- Laws of signed numbers: what a 64-bit sum, difference and product of two 32-bit numbers come to.
 -- Assumes nothing.
-use mathlib.Core.Path.{◌≡◌, refl, sym, ap, ◌∙◌, subst}
+use mathlib.Core.Path.{◌≡◌, refl}
 use mathlib.Core.Bool.{Bool, true, false, cond}
-use Prim.Native.Nat.{ℕ, zero, suc, ◌+◌, ◌-◌, ◌*◌, ◌^◌, ◌<◌, ◌≤◌}
+use Prim.Native.Nat.{ℕ, zero, suc, ◌-◌, ◌*◌, ◌^◌, ◌<◌, ◌≤◌}
 use native.Mathlib.Nat.{mul-le-mul}
 use native.Mathlib.Omega.{arith}
 use lib.Dec.{T, ltb}
 use lib.IntN.{ℤ, pos, negsuc, nat_abs, neg_ℤ, ◌+ℤ◌, ◌-ℤ◌, ◌*ℤ◌}
 use lib.Signed.{mag, lt_z, non_neg}
-use mir.Syntax.{Width, w32, w64}
+use mir.Syntax.{w32, w64}
 use mir.Val.{SFits, Fits, to_z, of_z}
 use mir.Facts.{to_z-of_z, sfits_widen}
 use borrow.Author.Tests.{ltb-true, ltb-false, lt-leb, le-leb}
@@ -43,7 +43,7 @@ clip-in (negsuc n) l h = rw (le-leb (suc n) 1000000 (omega (arith, ltb-false 999
 
 -- a 32-bit number is the same at 64 bits
 pub wide : {x : ℤ} → SFits w32 x → to_z w64 (of_z w64 (to_z w32 (of_z w32 x))) ≡ x
-wide h = rw (to_z-of_z h) (to_z-of_z (sfits_widen tt h))
+wide h = rw (to_z-of_z {w = w32} h) (to_z-of_z {w = w64} (sfits_widen tt h))
 
 apart : (t : Bool) (u v n : ℕ) → u < n → v < n → mag (cond t (negsuc u) (pos v)) < n
 apart true u v n h k = h

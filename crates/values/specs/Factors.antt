@@ -1,15 +1,13 @@
 -- An expression as its factors, in order: each with its head, as its word has them. Taking them one by one, with a sum and a term in
 -- hand, gives the value of an expression that is grouped as it is read. Assumes nothing.
-use Rattle.std.specs.Prelude.{◌≡◌, refl, ℕ, zero, suc, ◌+◌, ◌-◌, ◌*◌, ◌/◌, ◌%◌, ◌≤◌, ◌<◌, Bool, true, false, not, List, [], ◌∷◌, ◌++◌, length, eqb, ℤ, pos}
-use Rattle.std.proofs.Common.{sym, ap, ◌∙◌, subst, arith, append_assoc, eq-eqb, ne_eqb, eqb-true}
+use Rattle.std.specs.Prelude.{◌≡◌, refl, ℕ, ◌+◌, ◌-◌, ◌*◌, ◌/◌, ◌%◌, ◌<◌, Bool, true, false, not, List, [], ◌∷◌, ◌++◌, eqb, pos}
+use Rattle.std.proofs.Common.{sym, ap, ◌∙◌, arith, eq-eqb, ne_eqb, eqb-true}
 use Rattle.std.proofs.lemmas.Bool.{eqb-false}
 use Rattle.rules.specs.Text.{pick}
 use Rattle.rules.specs.Syntax.{Op, plus, minus, times, Exp, number, name, neg, group, both, Callee}
 use Rattle.rules.specs.Values.{Env}
 use Rattle.rules.proofs.Laws.Spelt.{AllExp, strength}
-use Rattle.tape.specs.Layout.{pack, NUMBER, NAME, BRACKET, head_of, flip}
-use Rattle.tape.specs.Encoding.{exp_w, list_w}
-use Rattle.tape.specs.Resolved.{slot_w}
+use Rattle.tape.specs.Layout.{head_of, flip}
 use Rattle.values.specs.declared.Number.{Number}
 use Rattle.values.specs.declared.Number.TheVariants.{Is, Beyond}
 use Rattle.values.specs.declared.Sum.{Sum}

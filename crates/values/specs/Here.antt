@@ -1,24 +1,22 @@
 -- The words of an expression's factors, and where on the tape they stand. Assumes nothing.
-use Rattle.std.specs.Prelude.{◌≡◌, refl, ℕ, zero, suc, ◌+◌, ◌-◌, ◌*◌, ◌/◌, ◌%◌, ◌≤◌, ◌<◌, Bool, true, false, ◌&&◌, List, [], ◌∷◌, ◌++◌, length, get_or, eqb, leb, ltb, ℤ, pos}
-use Rattle.std.proofs.Common.{sym, ap, ◌∙◌, subst, arith, append_assoc, append-nil, length-append, eq-eqb, ne_eqb, eqb-true, lt-ltb, le-leb}
+use Rattle.std.specs.Prelude.{◌≡◌, refl, ℕ, ◌+◌, ◌-◌, ◌/◌, ◌%◌, ◌≤◌, ◌<◌, Bool, true, false, ◌&&◌, List, [], ◌∷◌, ◌++◌, length, get_or, eqb, leb, ltb, ℤ}
+use Rattle.std.proofs.Common.{sym, ap, ◌∙◌, arith, append_assoc, append-nil, eqb-true}
 use Rattle.std.proofs.lemmas.Bool.{eqb-false}
 use Rattle.rules.specs.Text.{pick}
 use Rattle.rules.specs.Outcome.{Out, ok, refuse}
 use Rattle.rules.specs.Syntax.{Op, plus, minus, times, Exp, number, name, neg, group, both}
-use Rattle.rules.specs.Values.{Env, eval}
-use Rattle.rules.proofs.Laws.Spelt.{All, AllExp, strength}
+use Rattle.rules.proofs.Laws.Spelt.{All, AllExp}
 use Rattle.rules.proofs.Laws.Outcomes.{ok-inj, no_ok}
-use Rattle.tape.specs.Layout.{pack, kind_of, head_in, value_of, NUMBER, NAME, BRACKET, head_of, flip, kind-of, head-of, value-of}
+use Rattle.tape.specs.Layout.{kind_of, head_in, head_of, flip}
 use Rattle.tape.specs.Encoding.{exp_w, list_w}
 use Rattle.tape.specs.Resolved.{slot_w}
-use Rattle.tape.specs.Lies.{Lies, lies-first, lies-rest, lies-left, lies-right}
+use Rattle.tape.specs.Lies.{Lies}
 use Rattle.values.specs.declared.Number.{Number}
 use Rattle.values.specs.declared.Number.TheVariants.{Is, Beyond}
 use Rattle.values.specs.declared.Value.{Value}
 use Rattle.values.specs.declared.Value.TheVariants.{At, Outside}
-use Rattle.values.specs.declared.Sum.{Sum}
-use Rattle.values.specs.Numbers.{clipped, outcome, value, value-is}
-use Rattle.values.specs.Factors.{Factor, factors, step, steps, total, nothing, Grouped, steps-value, flip-half}
+use Rattle.values.specs.Numbers.{outcome}
+use Rattle.values.specs.Factors.{Factor, factors, Grouped, flip-half}
 
 -- ---- an expression on the tape
 

@@ -1,14 +1,13 @@
 -- The rounds of a loop, from its bounds on the tape. Assumes nothing.
 use Rattle.std.specs.Prelude.{◌≡◌, refl, ℕ, zero, suc, ◌+◌, ◌-◌, ◌≤◌, ◌<◌, List, length, Bool, true, false, cond, ltb, ℤ, pos, negsuc, nat_abs, neg_ℤ, ◌+ℤ◌, ◌-ℤ◌}
-use Rattle.std.proofs.Common.{sym, ap, ◌∙◌, subst, arith, leb→le}
+use Rattle.std.proofs.Common.{subst, arith, leb→le}
 use Rattle.std.proofs.Math.IntN.{suc_ℤ}
-use Rattle.rules.specs.Outcome.{Out, ok, refuse, ◌>>=◌, need}
+use Rattle.rules.specs.Outcome.{Out, ok, refuse, ◌>>=◌}
 use Rattle.rules.specs.Syntax.{Exp, number, name, neg, group, both}
 use Rattle.rules.specs.Values.{Env, ranged, eval, rounds}
 use Rattle.rules.proofs.Laws.Outcomes.{ok-inj, inv, need-yes}
 use Rattle.tape.specs.Encoding.{exp_w}
 use Rattle.tape.specs.Resolved.{slot_w}
-use Rattle.values.specs.declared.Apart.{Apart}
 use Rattle.values.specs.declared.Apart.TheVariants.{By, Not}
 use Rattle.values.specs.declared.Rounds.{Rounds}
 use Rattle.values.specs.declared.Rounds.TheVariants.{From, Wrong}

@@ -1,23 +1,21 @@
 -- Where an expression stops, and types on the tape. Assumes nothing.
-use Rattle.std.specs.Prelude.{◌≡◌, refl, ℕ, zero, suc, ◌+◌, ◌-◌, ◌*◌, ◌/◌, ◌%◌, ◌≤◌, ◌<◌, Bool, true, false, ◌&&◌, List, [], ◌∷◌, ◌++◌, length, get_or, eqb, leb, ltb, ℤ, pos, negsuc, ◌-ℤ◌}
+use Rattle.std.specs.Prelude.{◌≡◌, refl, ℕ, suc, ◌+◌, ◌≤◌, ◌<◌, Bool, true, false, ◌&&◌, List, ◌∷◌, ◌++◌, length, get_or, leb, ltb, ℤ, pos, negsuc, ◌-ℤ◌}
 use Rattle.std.proofs.Common.{sym, ap, ◌∙◌, subst, arith, length-append, le-ltb, le-leb}
 use Rattle.std.proofs.lemmas.Bool.{lt-leb}
 use Rattle.rules.specs.Outcome.{Out, ok, refuse, ◌>>=◌, need}
 use Rattle.rules.specs.Syntax.{Exp, Sort, wire, vector, num, Callee}
-use Rattle.rules.specs.Values.{Env, generics, eval, Shape, shape, width}
-use Rattle.rules.proofs.Laws.Spelt.{All, AllExp, AllSort}
-use Rattle.tape.specs.Layout.{pack, kind_of, head_in, value_of, kind-of, head-of, value-of}
+use Rattle.rules.specs.Values.{Env, eval, Shape, shape, width}
+use Rattle.rules.proofs.Laws.Spelt.{All, AllSort}
+use Rattle.tape.specs.Layout.{kind_of, head_in, head-of}
 use Rattle.tape.specs.Encoding.{exp_w, list_w, sort_w}
 use Rattle.tape.specs.Resolved.{slot_w}
 use Rattle.tape.specs.Lies.{Lies, lies-first, lies-rest, lies-left, lies-right}
-use Rattle.values.specs.declared.Value.{Value}
-use Rattle.values.specs.declared.Value.TheVariants.{At, Outside}
 use Rattle.values.specs.declared.Apart.{Apart}
 use Rattle.values.specs.declared.Apart.TheVariants.{By, Not}
 use Rattle.values.specs.declared.Size.{Size}
 use Rattle.values.specs.declared.Size.TheVariants.{Wires, Wrong}
-use Rattle.values.specs.Factors.{Factor, factors, Grouped}
-use Rattle.values.specs.Here.{goes_on, Here, Says, Sound, factor_w, row, factors-words, factors-sound}
+use Rattle.values.specs.Factors.{Grouped}
+use Rattle.values.specs.Here.{goes_on, Here, Sound, factor_w, row, factors-words, factors-sound}
 use Rattle.values.specs.Taking.{leads, plain-some}
 
 -- ---- where an expression stops

@@ -1,27 +1,23 @@
 -- Factors taken from the tape one by one: what is left of an expression's factors at each turn. Assumes nothing.
 use Rattle.std.proofs.Math.Path.{◌≡◌, refl, sym, ap, subst}
-use Rattle.std.proofs.Common.{◌∙◌, arith, eq-eqb, ne_eqb, eqb-true, lt-ltb, le-leb, le-ltb}
-use Rattle.std.specs.Prelude.{ℕ, zero, suc, ◌+◌, ◌-◌, ◌*◌, ◌/◌, ◌%◌, ◌≤◌, ◌<◌, Bool, ◌&&◌, get_or, eqb, leb, ltb, ℤ, pos}
+use Rattle.std.proofs.Common.{◌∙◌, arith, lt-ltb, le-leb, le-ltb}
+use Rattle.std.specs.Prelude.{ℕ, ◌+◌, ◌≤◌, ◌<◌, get_or, eqb, ℤ, pos}
 use Rattle.std.proofs.Math.Bool.{true, false}
-use mathlib.Core.List.{List, [], ◌∷◌, ◌++◌}
+use mathlib.Core.List.{List, [], ◌∷◌}
 use Rattle.std.proofs.Math.ListN.{length, length-append}
-use Rattle.std.proofs.lemmas.Bool.{eqb-false}
 use Rattle.rules.specs.Text.{pick}
-use Rattle.rules.specs.Outcome.{Out, ok, refuse}
-use Rattle.rules.specs.Syntax.{Op, Exp, number, name, neg, group, both}
+use Rattle.rules.specs.Syntax.{Exp, number, name, neg, group, both}
 use Rattle.rules.specs.Values.{Env, generics, eval}
-use Rattle.rules.proofs.Laws.Spelt.{All, AllExp}
+use Rattle.rules.proofs.Laws.Spelt.{All}
 use Rattle.tape.specs.Layout.{pack, kind_of, head_in, value_of, kind-of, head-of, value-of}
 use Rattle.tape.specs.Encoding.{exp_w, list_w}
 use Rattle.tape.specs.Resolved.{slot_w}
 use Rattle.tape.specs.Lies.{Lies, lies-first, lies-rest, lies-left, lies-right}
 use Rattle.values.specs.declared.Number.{Number}
-use Rattle.values.specs.declared.Number.TheVariants.{Is, Beyond}
 use Rattle.values.specs.declared.Value.{Value}
-use Rattle.values.specs.declared.Value.TheVariants.{At, Outside}
 use Rattle.values.specs.declared.Sum.{Sum}
-use Rattle.values.specs.Numbers.{clipped, outcome, value, value-is}
-use Rattle.values.specs.Factors.{Factor, factors, step, steps, total, nothing, Grouped, steps-value}
+use Rattle.values.specs.Numbers.{clipped, value, value-is}
+use Rattle.values.specs.Factors.{Factor, factors, step, steps, total, nothing, steps-value}
 use Rattle.values.specs.Here.{goes_on, Here, Says, Plain, Sound, factor_w, HereFactor, Joins, row, factors-words, factors-sound, number_in, value_at, says-number, says-value}
 
 -- the place after the factor at i

@@ -1,6 +1,5 @@
 use Rattle.compare.specs.Match.{unseen-at, seen-so}
 use Rattle.netlist.specs.Decides.{so, not_so}
-use borrow.Author.Rules.{rules}
 use native.Mathlib.Omega.{arith}
 use Rattle.compare.proofs.calls.Goals as goal
 

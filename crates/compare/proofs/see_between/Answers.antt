@@ -1,6 +1,5 @@
 use Rattle.compare.specs.Match.{nothing, match_is}
 use Rattle.write.specs.Pieces.{between_none, between-some}
-use borrow.Author.Rules.{rules}
 use mathlib.Core.Path.{sym}
 use Rattle.compare.proofs.see_between.Goals as goal
 

@@ -1,6 +1,5 @@
 use Rattle.compare.specs.Match.{begin, step, stop, last}
 use Rattle.compare.specs.Walk.{call_of}
-use borrow.Author.Rules.{rules}
 use Rattle.compare.proofs.see_call.Goals as goal
 
 pub returns-in_default : goal.returns-in_default

@@ -1,6 +1,5 @@
 use Rattle.compare.specs.Match.{begin-one, apart, step, stop, last}
 use Rattle.compare.specs.Walk.{gate_parts, gate-parts}
-use borrow.Author.Rules.{rules}
 use Rattle.compare.proofs.see_gate.Goals as goal
 
 pub see_call-requires : goal.see_call-requires

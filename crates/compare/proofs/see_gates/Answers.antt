@@ -1,9 +1,7 @@
-use Prim.Native.Nat.{◌-◌, ◌≤◌}
-use Rattle.compare.specs.Match.{Walking, match_is, begin-one, piece_is, apart, step, stop, finish}
+use Rattle.compare.specs.Match.{match_is, begin-one, piece_is, apart, step, stop, finish}
 use Rattle.rules.specs.Flat.{gate_text, gates_text}
 use Rattle.write.specs.Pieces.{gates-begin, gates-open, gates-close}
-use borrow.Author.Rules.{rules}
-use mathlib.Core.List.{[], ◌∷◌}
+use mathlib.Core.List.{[]}
 use mathlib.Core.Path.{ap}
 use native.Mathlib.Omega.{arith}
 use Rattle.compare.proofs.see_gates.Goals as goal

@@ -1,11 +1,7 @@
 use Prim.Native.Nat.{◌-◌, ◌≤◌}
-use Rattle.compare.specs.Match.{Walking, match_is, begin-one, piece_is, apart, step, stop, finish}
-use Rattle.rules.specs.Flat.{gate_text, gates_text}
-use Rattle.write.specs.Pieces.{gates-begin, gates-open, gates-close}
-use borrow.Author.Rules.{rules}
+use Rattle.compare.specs.Match.{Walking}
+use Rattle.rules.specs.Flat.{gates_text}
 use mathlib.Core.List.{[], ◌∷◌}
-use mathlib.Core.Path.{ap}
-use native.Mathlib.Omega.{arith}
 use Rattle.compare.proofs.see_gates.Given as goal
 
 abbrev pub invariant-loop-i : goal.invariant-loop-i

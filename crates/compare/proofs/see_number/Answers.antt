@@ -1,7 +1,6 @@
 use Rattle.compare.specs.Match.{match_is}
 use Rattle.rules.specs.Flat.{decimal}
 use Rattle.write.specs.Writes.{first-ones, first-fit}
-use borrow.Author.Rules.{rules}
 use lib.Seq.{length-take-le}
 use mathlib.Core.Path.{sym}
 use Rattle.compare.proofs.see_number.Goals as goal

@@ -1,10 +1,7 @@
 use Prim.Native.Nat.{◌+◌, ◌-◌, ◌≤◌}
-use Rattle.compare.specs.Match.{Walking, begin-one, piece_is, apart, step, stop, last}
+use Rattle.compare.specs.Match.{Walking}
 use Rattle.rules.specs.Flat.{ports_text}
-use Rattle.write.specs.Pieces.{ports-begin, ports-open, ports-close}
-use borrow.Author.Rules.{rules}
 use mathlib.Core.List.{[], ◌∷◌}
-use native.Mathlib.Omega.{arith}
 use Rattle.compare.proofs.see_ports.Given as goal
 
 abbrev pub invariant-loop-i : goal.invariant-loop-i

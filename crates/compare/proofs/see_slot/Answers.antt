@@ -1,6 +1,5 @@
 use Rattle.compare.specs.Match.{nothing, begin-one, piece_is, apart, step, stop, last, finish, no_pieces}
 use Rattle.write.specs.Pieces.{slot-used, slot-free, between_none, between-some}
-use borrow.Author.Rules.{rules}
 use mathlib.Core.List.{[]}
 use mathlib.Core.Path.{◌∙◌}
 use native.Mathlib.Omega.{arith}

@@ -1,6 +1,5 @@
 use Rattle.compare.specs.Match.{match_is, begin, step, stop, last}
 use Rattle.write.specs.Pieces.{slots_of, slots-of}
-use borrow.Author.Rules.{rules}
 use Rattle.compare.proofs.see_slots.Goals as goal
 
 pub see_slot-requires : goal.see_slot-requires

@@ -1,9 +1,6 @@
-use Prim.Native.Nat.{◌+◌, ◌-◌, ◌≤◌}
-use Rattle.compare.specs.Match.{Walking, begin-one, piece_is, apart, step, stop, finish}
-use Rattle.rules.specs.Flat.{vars_text}
+use Rattle.compare.specs.Match.{begin-one, piece_is, apart, step, stop, finish}
 use Rattle.write.specs.Pieces.{vars-begin, vars-open, vars-close}
-use borrow.Author.Rules.{rules}
-use mathlib.Core.List.{[], ◌∷◌}
+use mathlib.Core.List.{[]}
 use native.Mathlib.Omega.{arith}
 use Rattle.compare.proofs.see_vars.Goals as goal
 

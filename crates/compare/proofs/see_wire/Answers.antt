@@ -1,7 +1,6 @@
 use Rattle.compare.specs.Match.{begin, step, stop, last}
 use Rattle.rules.specs.Flat.{decimal, wire_text}
 use Rattle.rules.specs.Text.{bytes}
-use borrow.Author.Rules.{rules}
 use mathlib.Core.List.{[], ◌∷◌}
 use Rattle.compare.proofs.see_wire.Goals as goal
 

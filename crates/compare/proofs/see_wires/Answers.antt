@@ -1,6 +1,5 @@
 use Rattle.compare.specs.Match.{begin-one, apart, step, stop, last}
 use Rattle.compare.specs.Walk.{head_by, head-by}
-use borrow.Author.Rules.{rules}
 use native.Mathlib.Omega.{arith}
 use Rattle.compare.proofs.see_wires.Goals as goal
 

@@ -1,17 +1,15 @@
 use Rattle.compare.specs.Match.{begin-one, apart, step, stop, finish, whole, not-whole, nowhere}
 use Rattle.compare.specs.Walk.{text_parts, text-parts}
 use Rattle.netlist.specs.Decides.{so, not_so, holds, fails}
-use borrow.Author.Rules.{rules}
-use borrow.Author.Tests.{not-true, not-false}
 use native.Mathlib.Omega.{arith}
 use Rattle.compare.proofs.written_as.Goals as goal
 
 pub returns-then-not-well_formed : goal.returns-then-not-well_formed
-returns-then-not-well_formed c = not_so (λ p. fails c.well_formed-2.ensures (not-true _ c.if-not-well_formed.true) p.0)
+returns-then-not-well_formed c = not_so (λ p. fails c.well_formed-2.ensures c.if-not-well_formed.true p.0)
 
 pub see_wires-requires : goal.see_wires-requires
 see_wires-requires c =
-    let well = holds c.well_formed-2.ensures (not-false _ c.if-not-well_formed.false) in
+    let well = holds c.well_formed-2.ensures c.if-not-well_formed.false in
     well
 
 pub returns-in_default : goal.returns-in_default
@@ -21,10 +19,10 @@ returns-in_default c =
 
 pub see_gates-requires : goal.see_gates-requires
 see_gates-requires c =
-    let well = holds c.well_formed-2.ensures (not-false _ c.if-not-well_formed.false) in
+    let well = holds c.well_formed-2.ensures c.if-not-well_formed.false in
     let w0 = apart (text_parts c.args.net.now) (text-parts c.args.net.now) (begin-one c.args.text.now 0 _ (omega arith)) in
     let w1 = step w0 c.see_wires.ensures c.in-To.is in
-    record { well_formed = well; at_in_bounds = w1.inside; }
+    record { well_formed = well; at_in_bounds = w1.inside }
 
 pub returns-in_default-see_gates : goal.returns-in_default-see_gates
 returns-in_default-see_gates c =
@@ -48,7 +46,7 @@ returns-in_default-see c =
 
 pub returns-then-c-text : goal.returns-then-c-text
 returns-then-c-text c =
-    let well = holds c.well_formed-2.ensures (not-false _ c.if-not-well_formed.false) in
+    let well = holds c.well_formed-2.ensures c.if-not-well_formed.false in
     let w0 = apart (text_parts c.args.net.now) (text-parts c.args.net.now) (begin-one c.args.text.now 0 _ (omega arith)) in
     let w1 = step w0 c.see_wires.ensures c.in-To.is in
     let w2 = step w1 c.see_gates.ensures c.in-To-see_gates.is in

@@ -1,11 +1,6 @@
-use Prim.Native.Nat.{◌-◌, ◌≤◌, ◌+◌}
-use mathlib.Core.Path.{◌≡◌, sym, ◌∙◌}
+use mathlib.Core.Path.{sym, ◌∙◌}
 use native.Mathlib.Omega.{arith}
-use lib.ListN.{drop, take}
-use borrow.Author.Tests.{not-true, not-false}
-use Rattle.sweep.specs.Sweep.{given}
-use Rattle.sweep.specs.Laws.Counts.{given-more, given-stop, given-end}
-use borrow.Author.Rules.{rules}
+use Rattle.sweep.proofs.Laws.Counts.{given-more, given-stop, given-end}
 use Rattle.headings.proofs.arguments_given.Goals as goal
 
 pub loop-i-init : goal.loop-i-init
@@ -14,7 +9,7 @@ loop-i-init c = (omega arith, omega arith)
 pub returns-then-not-in_call : goal.returns-then-not-in_call
 returns-then-not-in_call c =
     let l = c.loop-i in
-    let z = given-stop c.args.tape.now c.args.end c.args.wanted l.i c.requires _ c.kind_of-kind.ensures (sym (not-true _ c.if-not-in_call.true) ∙ c.in_call.ensures) c.loop-i-test.true in
+    let z = given-stop c.args.tape.now c.args.end c.args.wanted l.i c.requires _ c.kind_of-kind.ensures (sym c.if-not-in_call.true ∙ c.in_call.ensures) c.loop-i-test.true in
     omega arith
 
 pub overflow_add-n : goal.overflow_add-n
@@ -23,7 +18,7 @@ overflow_add-n c = record { fits = omega (arith, c.one_if-n.ensures.1) }
 pub loop-i-preserved : goal.loop-i-preserved
 loop-i-preserved c =
     let l = c.loop-i in
-    let z = given-more c.args.tape.now c.args.end c.args.wanted l.i c.requires _ _ c.kind_of-kind.ensures (sym (not-false _ c.if-not-in_call.false) ∙ c.in_call.ensures) c.one_if-n.ensures.0 c.loop-i-test.true in
+    let z = given-more c.args.tape.now c.args.end c.args.wanted l.i c.requires _ _ c.kind_of-kind.ensures (sym c.if-not-in_call.false ∙ c.in_call.ensures) c.one_if-n.ensures.0 c.loop-i-test.true in
     (omega (arith, c.one_if-n.ensures.1), omega arith)
 
 pub returns : goal.returns

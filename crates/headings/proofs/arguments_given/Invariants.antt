@@ -1,11 +1,7 @@
 use Prim.Native.Nat.{◌-◌, ◌≤◌, ◌+◌}
-use mathlib.Core.Path.{◌≡◌, sym, ◌∙◌}
-use native.Mathlib.Omega.{arith}
+use mathlib.Core.Path.{◌≡◌}
 use lib.ListN.{drop, take}
-use borrow.Author.Tests.{not-true, not-false}
 use Rattle.sweep.specs.Sweep.{given}
-use Rattle.sweep.specs.Laws.Counts.{given-more, given-stop, given-end}
-use borrow.Author.Rules.{rules}
 use Rattle.headings.proofs.arguments_given.Given as goal
 
 abbrev pub invariant-loop-i : goal.invariant-loop-i

@@ -1,7 +1,6 @@
 use native.Mathlib.Omega.{arith}
 use Rattle.rules.specs.Text.{pick}
 use borrow.Author.Tests.{lt-ltb, le-ltb}
-use borrow.Author.Rules.{rules}
 use Rattle.headings.proofs.begins.Goals as goal
 
 pub returns-then-head_of-lt2 : goal.returns-then-head_of-lt2

@@ -1,5 +1,4 @@
-use Rattle.sweep.specs.Laws.Counts.{no-generics, no-inputs, all-counts}
-use borrow.Author.Rules.{rules}
+use Rattle.sweep.proofs.Laws.Counts.{no-generics, no-inputs, all-counts}
 use Rattle.headings.proofs.counts_fit.Goals as goal
 
 pub returns-then-generics_given-h : goal.returns-then-generics_given-h

@@ -1,34 +1,23 @@
-use Prim.Native.Nat.{◌+◌, ◌-◌, ◌≤◌}
-use mathlib.Core.Path.{◌≡◌, refl, sym, ap, ◌∙◌}
+use Prim.Native.Nat.{◌+◌}
+use mathlib.Core.Path.{refl, sym, ap, ◌∙◌}
 use native.Mathlib.Omega.{arith}
 use lib.ListN.{length, take, drop, length-set}
-use borrow.Author.Tests.{not-true, not-false}
 use Rattle.tape.specs.Written.{put}
 use Rattle.sweep.specs.Sweep.{firsts}
-use Rattle.sweep.specs.Laws.Gather.{firsts-skip, firsts-pass, firsts-keep, firsts-end}
-use borrow.Author.Rules.{rules}
+use Rattle.sweep.proofs.Laws.Gather.{firsts-skip, firsts-pass, firsts-keep, firsts-end}
 use Rattle.headings.proofs.gather_firsts.Goals as goal
 
 pub loop-i-init : goal.loop-i-init
 loop-i-init c = (omega arith, omega arith, refl, refl)
 
 pub loop-i-preserved-then-not-is_heading : goal.loop-i-preserved-then-not-is_heading
-loop-i-preserved-then-not-is_heading c = (omega arith, omega arith, c.loop-i.invariant.2, firsts-skip c.args.tape.now c.args.end c.loop-i.i c.requires c.loop-i-test.true _ c.is_heading.ensures (not-true _ c.if-not-is_heading.true) _ _ _ ∙ c.loop-i.invariant.3)
-
-pub overflow_add-n : goal.overflow_add-n
-overflow_add-n c = record { fits = omega (arith, c.before.before.before.before.before.before.before.before.before.well-formed, c.requires, c.loop-i.invariant.0, c.loop-i-test.true) }
+loop-i-preserved-then-not-is_heading c = (omega arith, omega arith, c.loop-i.invariant.2, firsts-skip c.args.tape.now c.args.end c.loop-i.i c.requires c.loop-i-test.true _ c.is_heading.ensures c.if-not-is_heading.true _ _ _ ∙ c.loop-i.invariant.3)
 
 pub loop-i-preserved-then-kind_of-ne-BLOCK : goal.loop-i-preserved-then-kind_of-ne-BLOCK
-loop-i-preserved-then-kind_of-ne-BLOCK c = (omega (arith, c.loop-i.invariant.0), omega (arith, c.loop-i.invariant.1), c.loop-i.invariant.2, firsts-pass c.args.tape.now c.args.end c.loop-i.i c.requires c.loop-i-test.true _ c.is_heading.ensures (not-false _ c.if-not-is_heading.false) _ c.kind_of.ensures c.if-kind_of-ne-BLOCK.true _ _ _ ∙ c.loop-i.invariant.3)
-
-pub overflow_add-b : goal.overflow_add-b
-overflow_add-b c = record { fits = omega (arith, c.before.before.before.before.before.before.before.before.before.before.before.before.before.well-formed, c.requires, c.loop-i.invariant.1, c.loop-i-test.true) }
-
-pub overflow_add-n-in-loop-i : goal.overflow_add-n-in-loop-i
-overflow_add-n-in-loop-i c = record { fits = omega (arith, c.before.before.before.before.before.before.before.before.before.before.before.before.before.well-formed, c.requires, c.loop-i.invariant.0, c.loop-i-test.true) }
+loop-i-preserved-then-kind_of-ne-BLOCK c = (omega (arith, c.loop-i.invariant.0), omega (arith, c.loop-i.invariant.1), c.loop-i.invariant.2, firsts-pass c.args.tape.now c.args.end c.loop-i.i c.requires c.loop-i-test.true _ c.is_heading.ensures c.if-not-is_heading.false _ c.kind_of.ensures c.if-kind_of-ne-BLOCK.true _ _ _ ∙ c.loop-i.invariant.3)
 
 pub loop-i-preserved : goal.loop-i-preserved
-loop-i-preserved c = (omega (arith, c.loop-i.invariant.0), omega (arith, c.loop-i.invariant.1), ap length c.keep_place.ensures ∙ simp length-set c.loop-i.invariant.2, ap (λ h. put h (c.loop-i.b + 1) (firsts (c.loop-i.n + 1) (drop (c.loop-i.i + 1) (take c.args.end c.args.tape.now)))) c.keep_place.ensures ∙ firsts-keep c.args.tape.now c.args.end c.loop-i.i c.requires c.loop-i-test.true _ c.is_heading.ensures (not-false _ c.if-not-is_heading.false) _ c.kind_of.ensures c.if-kind_of-ne-BLOCK.false _ _ _ ∙ c.loop-i.invariant.3)
+loop-i-preserved c = (omega (arith, c.loop-i.invariant.0), omega (arith, c.loop-i.invariant.1), ap length c.keep_place.ensures ∙ simp length-set c.loop-i.invariant.2, ap (λ h. put h (c.loop-i.b + 1) (firsts (c.loop-i.n + 1) (drop (c.loop-i.i + 1) (take c.args.end c.args.tape.now)))) c.keep_place.ensures ∙ firsts-keep c.args.tape.now c.args.end c.loop-i.i c.requires c.loop-i-test.true _ c.is_heading.ensures c.if-not-is_heading.false _ c.kind_of.ensures c.if-kind_of-ne-BLOCK.false _ _ _ ∙ c.loop-i.invariant.3)
 
 pub shape_of-places : goal.shape_of-places
 shape_of-places c = c.loop-i.invariant.2

@@ -1,25 +1,20 @@
-use Prim.Native.Nat.{◌+◌, ◌-◌, ◌≤◌}
-use mathlib.Core.Path.{◌≡◌, refl, sym, ap, ◌∙◌}
+use Prim.Native.Nat.{◌+◌}
+use mathlib.Core.Path.{refl, sym, ap, ◌∙◌}
 use native.Mathlib.Omega.{arith}
 use lib.ListN.{length, take, drop, length-set}
-use borrow.Author.Tests.{not-true, not-false}
 use Rattle.tape.specs.Written.{put}
 use Rattle.sweep.specs.Sweep.{headings}
-use Rattle.sweep.specs.Laws.Gather.{heads-skip, heads-keep, heads-end}
-use borrow.Author.Rules.{rules}
+use Rattle.sweep.proofs.Laws.Gather.{heads-skip, heads-keep, heads-end}
 use Rattle.headings.proofs.gather_heads.Goals as goal
 
 pub loop-i-init : goal.loop-i-init
 loop-i-init c = (omega arith, refl, refl)
 
 pub loop-i-preserved-then-not-is_heading : goal.loop-i-preserved-then-not-is_heading
-loop-i-preserved-then-not-is_heading c = (omega arith, c.loop-i.invariant.1, heads-skip c.args.tape.now c.args.end c.loop-i.i c.requires c.loop-i-test.true _ c.is_heading.ensures (not-true _ c.if-not-is_heading.true) _ _ ∙ c.loop-i.invariant.2)
-
-pub overflow_add-n : goal.overflow_add-n
-overflow_add-n c = record { fits = omega (arith, c.before.before.before.before.before.before.before.before.before.before.before.well-formed, c.requires, c.loop-i.invariant.0, c.loop-i-test.true) }
+loop-i-preserved-then-not-is_heading c = (omega arith, c.loop-i.invariant.1, heads-skip c.args.tape.now c.args.end c.loop-i.i c.requires c.loop-i-test.true _ c.is_heading.ensures c.if-not-is_heading.true _ _ ∙ c.loop-i.invariant.2)
 
 pub loop-i-preserved : goal.loop-i-preserved
-loop-i-preserved c = (omega (arith, c.loop-i.invariant.0), ap length c.keep.ensures ∙ simp length-set c.loop-i.invariant.1, ap (λ h. put h (c.loop-i.n + 1) (headings (drop (c.loop-i.i + 1) (take c.args.end c.args.tape.now)))) c.keep.ensures ∙ heads-keep c.args.tape.now c.args.end c.loop-i.i c.requires c.loop-i-test.true _ c.is_heading.ensures (not-false _ c.if-not-is_heading.false) _ _ ∙ c.loop-i.invariant.2)
+loop-i-preserved c = (omega (arith, c.loop-i.invariant.0), ap length c.keep.ensures ∙ simp length-set c.loop-i.invariant.1, ap (λ h. put h (c.loop-i.n + 1) (headings (drop (c.loop-i.i + 1) (take c.args.end c.args.tape.now)))) c.keep.ensures ∙ heads-keep c.args.tape.now c.args.end c.loop-i.i c.requires c.loop-i-test.true _ c.is_heading.ensures c.if-not-is_heading.false _ _ ∙ c.loop-i.invariant.2)
 
 pub shape_of-heads : goal.shape_of-heads
 shape_of-heads c = c.loop-i.invariant.1

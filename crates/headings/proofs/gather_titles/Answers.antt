@@ -1,12 +1,10 @@
-use Prim.Native.Nat.{◌+◌, ◌-◌, ◌≤◌}
-use mathlib.Core.Path.{◌≡◌, refl, sym, ap, ◌∙◌}
+use Prim.Native.Nat.{◌+◌}
+use mathlib.Core.Path.{refl, sym, ap, ◌∙◌}
 use native.Mathlib.Omega.{arith}
 use lib.ListN.{length, take, drop, length-set}
-use borrow.Author.Tests.{not-true, not-false}
 use Rattle.tape.specs.Written.{put}
 use Rattle.sweep.specs.Sweep.{titles}
-use Rattle.sweep.specs.Laws.Gather.{titles-skip, titles-keep, titles-more, titles-end, titles-none}
-use borrow.Author.Rules.{rules}
+use Rattle.sweep.proofs.Laws.Gather.{titles-skip, titles-keep, titles-more, titles-end, titles-none}
 use Rattle.headings.proofs.gather_titles.Goals as goal
 
 pub loop-i-init : goal.loop-i-init
@@ -16,9 +14,6 @@ pub loop-i-preserved-then-kind_of-ne-BLOCK : goal.loop-i-preserved-then-kind_of-
 loop-i-preserved-then-kind_of-ne-BLOCK c =
     let z = titles-skip c.args.tape.now c.args.end c.loop-i.i c.requires c.loop-i-test.true _ c.kind_of.ensures c.if-kind_of-ne-BLOCK.true in
     (omega arith, c.loop-i.invariant.1, ap (put c.loop-i.rows c.loop-i.n) (sym z) ∙ c.loop-i.invariant.2, ap (λ l. c.loop-i.n + length l) (sym z) ∙ c.loop-i.invariant.3)
-
-pub overflow_add-n : goal.overflow_add-n
-overflow_add-n c = record { fits = omega (arith, c.before.before.before.before.before.before.before.before.before.before.before.well-formed, c.requires, c.loop-i.invariant.0, c.loop-i-test.true) }
 
 pub loop-i-preserved : goal.loop-i-preserved
 loop-i-preserved c = (

@@ -1,12 +1,8 @@
 use Prim.Native.Nat.{◌+◌, ◌-◌, ◌≤◌}
-use mathlib.Core.Path.{◌≡◌, refl, sym, ap, ◌∙◌}
-use native.Mathlib.Omega.{arith}
-use lib.ListN.{length, take, drop, length-set}
-use borrow.Author.Tests.{not-true, not-false}
+use mathlib.Core.Path.{◌≡◌}
+use lib.ListN.{length, take, drop}
 use Rattle.tape.specs.Written.{put}
 use Rattle.sweep.specs.Sweep.{titles}
-use Rattle.sweep.specs.Laws.Gather.{titles-skip, titles-keep, titles-more, titles-end, titles-none}
-use borrow.Author.Rules.{rules}
 use Rattle.headings.proofs.gather_titles.Given as goal
 
 abbrev pub invariant-loop-i : goal.invariant-loop-i

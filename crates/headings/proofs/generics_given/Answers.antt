@@ -1,10 +1,5 @@
-use Prim.Native.Nat.{◌-◌, ◌≤◌, ◌+◌}
-use mathlib.Core.Path.{◌≡◌, sym, ◌∙◌}
 use native.Mathlib.Omega.{arith}
-use lib.ListN.{drop, take}
-use Rattle.sweep.specs.Sweep.{generics_given}
-use Rattle.sweep.specs.Laws.Counts.{generics-stop, generics-inside, generics-more, generics-end}
-use borrow.Author.Rules.{rules}
+use Rattle.sweep.proofs.Laws.Counts.{generics-stop, generics-inside, generics-more, generics-end}
 use Rattle.headings.proofs.generics_given.Goals as goal
 
 pub loop-i-init : goal.loop-i-init

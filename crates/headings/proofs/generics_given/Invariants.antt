@@ -1,10 +1,7 @@
 use Prim.Native.Nat.{◌-◌, ◌≤◌, ◌+◌}
-use mathlib.Core.Path.{◌≡◌, sym, ◌∙◌}
-use native.Mathlib.Omega.{arith}
+use mathlib.Core.Path.{◌≡◌}
 use lib.ListN.{drop, take}
 use Rattle.sweep.specs.Sweep.{generics_given}
-use Rattle.sweep.specs.Laws.Counts.{generics-stop, generics-inside, generics-more, generics-end}
-use borrow.Author.Rules.{rules}
 use Rattle.headings.proofs.generics_given.Given as goal
 
 abbrev pub invariant-loop-i : goal.invariant-loop-i

@@ -1,6 +1,4 @@
-use Rattle.sweep.specs.Sweep.{heading_at}
-use Rattle.sweep.specs.Laws.Counts.{made-heading}
-use borrow.Author.Rules.{rules}
+use Rattle.sweep.proofs.Laws.Counts.{made-heading}
 use Rattle.headings.proofs.heading_at.Goals as goal
 
 pub returns : goal.returns

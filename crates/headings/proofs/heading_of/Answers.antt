@@ -1,7 +1,6 @@
 use native.Mathlib.Omega.{arith}
 use Prim.Native.Nat.{◌-◌}
-use Rattle.sweep.specs.Laws.Counts.{gate-heading, block-heading}
-use borrow.Author.Rules.{rules}
+use Rattle.sweep.proofs.Laws.Counts.{gate-heading, block-heading}
 use Rattle.headings.proofs.heading_of.Goals as goal
 
 pub returns-then-callee-lt10 : goal.returns-then-callee-lt10

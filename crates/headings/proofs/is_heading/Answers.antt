@@ -1,6 +1,4 @@
-use mathlib.Core.Bool.{◌&&◌}
 use borrow.Author.Tests.{lt-ltb, le-ltb}
-use borrow.Author.Rules.{rules}
 use Rattle.headings.proofs.is_heading.Goals as goal
 
 pub returns-then-kind-gt-BODY : goal.returns-then-kind-gt-BODY

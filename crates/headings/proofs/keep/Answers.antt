@@ -1,6 +1,5 @@
-use mathlib.Core.Path.{◌≡◌, sym}
+use mathlib.Core.Path.{sym}
 use lib.Seq.{set_out}
-use borrow.Author.Rules.{rules}
 use Rattle.headings.proofs.keep.Goals as goal
 
 pub returns-else-i-words : goal.returns-else-i-words

@@ -1,10 +1,5 @@
-use Prim.Native.Nat.{◌-◌, ◌≤◌, ◌+◌}
-use mathlib.Core.Path.{◌≡◌}
 use native.Mathlib.Omega.{arith}
-use lib.ListN.{length, drop}
-use Rattle.sweep.specs.Sweep.{leading}
-use Rattle.sweep.specs.Laws.Counts.{lead-more, lead-stop, lead-end}
-use borrow.Author.Rules.{rules}
+use Rattle.sweep.proofs.Laws.Counts.{lead-more, lead-stop, lead-end}
 use Rattle.headings.proofs.leading_words.Goals as goal
 
 pub loop-i-init : goal.loop-i-init

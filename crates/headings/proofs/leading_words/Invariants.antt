@@ -1,10 +1,7 @@
 use Prim.Native.Nat.{◌-◌, ◌≤◌, ◌+◌}
 use mathlib.Core.Path.{◌≡◌}
-use native.Mathlib.Omega.{arith}
 use lib.ListN.{length, drop}
 use Rattle.sweep.specs.Sweep.{leading}
-use Rattle.sweep.specs.Laws.Counts.{lead-more, lead-stop, lead-end}
-use borrow.Author.Rules.{rules}
 use Rattle.headings.proofs.leading_words.Given as goal
 
 abbrev pub invariant-loop-i : goal.invariant-loop-i

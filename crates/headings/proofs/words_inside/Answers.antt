@@ -1,6 +1,5 @@
 use Rattle.rules.specs.Text.{pick}
 use borrow.Author.Tests.{eq-eqb, ne_eqb}
-use borrow.Author.Rules.{rules}
 use Rattle.headings.proofs.words_inside.Goals as goal
 
 pub returns-then-kind_of-eq-BRACKET : goal.returns-then-kind_of-eq-BRACKET

@@ -1,17 +1,17 @@
 -- Laws of chains: terms and expressions, read by a loop. Assumes nothing.
-use Rattle.std.specs.Prelude.{◌≡◌, ℕ, zero, suc, ◌+◌, ◌≤◌, ◌<◌, Bool, true, false, List, [], ◌∷◌, ◌++◌, length}
+use Rattle.std.specs.Prelude.{◌≡◌, ℕ, suc, ◌≤◌, Bool, List, length}
 use Rattle.std.proofs.Math.Path.{refl}
-use Rattle.std.proofs.Common.{sym, ap, ◌∙◌, ⊎_elim, arith}
+use Rattle.std.proofs.Common.{◌∙◌}
 use Rattle.rules.specs.declared.Word.{Word}
 use Rattle.rules.specs.declared.Word.TheVariants.{Bad, Name as Named, Number, Mark}
 use Rattle.rules.specs.Text.{pick}
-use Rattle.rules.specs.Outcome.{Out, ok, refuse, ◌>>=◌ as ◌and-then◌}
+use Rattle.rules.specs.Outcome.{Out, refuse, ◌>>=◌ as ◌and-then◌}
 use Rattle.rules.specs.Words.{word_at}
 use Rattle.rules.specs.Syntax.{both}
 use Rattle.rules.specs.Readers.{Reader, ◌>>=◌, give}
 use Rattle.rules.specs.Grammar.{Expr, joined, op_of, chain_up_to, chain}
 use Rattle.rules.proofs.Laws.Enough.{link}
-use Rattle.tape.specs.Layout.{head_of, name_w}
+use Rattle.tape.specs.Layout.{name_w}
 use Rattle.tape.specs.Encoding.{exp_w}
 use Rattle.tape.specs.Written.{Wrote, Got, none, later}
 use Rattle.marks.specs.Marks.{Joint, Ends}

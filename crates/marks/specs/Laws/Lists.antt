@@ -1,21 +1,20 @@
 -- Laws of lists, read by a loop. Assumes nothing.
 use Rattle.std.proofs.Math.Path.{◌≡◌}
-use Rattle.std.specs.Prelude.{refl, ℕ, zero, suc, ◌+◌, ◌*◌, ◌≤◌, ◌<◌, Bool, List, [], ◌∷◌, ◌++◌, length, eqb}
-use Rattle.std.proofs.Common.{sym, ap, ◌∙◌, subst, arith}
+use Rattle.std.specs.Prelude.{refl, ℕ, suc, ◌+◌, ◌*◌, ◌≤◌, Bool, List, [], ◌∷◌, ◌++◌, length, eqb}
+use Rattle.std.proofs.Common.{sym, ◌∙◌, subst, arith}
 use Prim.Native.String.{String}
 use Rattle.std.proofs.Math.Bool.{true, false}
 use Rattle.rules.specs.declared.Word.{Word}
 use Rattle.rules.specs.declared.Word.TheVariants.{Bad, Name as Named, Number, Mark}
 use Rattle.rules.specs.Text.{pick}
-use Rattle.rules.specs.Outcome.{Out, ok, refuse, ◌>>=◌ as ◌and-then◌}
+use Rattle.rules.specs.Outcome.{Out, refuse, ◌>>=◌ as ◌and-then◌}
 use Rattle.rules.specs.Words.{word_at, key}
 use Rattle.rules.specs.Readers.{Reader, ◌>>=◌, give, refused, marked, rest, some}
 use Rattle.rules.proofs.Laws.Enough.{turn}
 use Rattle.tape.specs.Encoding.{list_w}
-use Rattle.tape.specs.Written.{Wrote, Got, Gives, nothing, later, as-words}
+use Rattle.tape.specs.Written.{Got, Gives, nothing, later, as-words}
 use Rattle.tape.specs.declared.Read.{Read}
 use Rattle.tape.specs.declared.Read.TheVariants.{Done, No}
-use Rattle.marks.specs.declared.Divided.{Divided}
 use Rattle.marks.specs.declared.Divided.TheVariants.{Another, Last, Wrong}
 use Rattle.marks.specs.Marks.{dividing}
 use Rattle.marks.specs.Room.{Spends}

@@ -1,14 +1,13 @@
 -- Laws of single words. Assumes nothing.
-use Rattle.std.specs.Prelude.{◌≡◌, refl, ℕ, zero, suc, ◌+◌, ◌-◌, ◌*◌, ◌≤◌, ◌<◌, Bool, true, false, List, [], ◌∷◌, length, take, drop, eqb}
-use Rattle.std.proofs.Common.{sym, ap, ◌∙◌, subst, arith, length-take, length-drop}
+use Rattle.std.specs.Prelude.{◌≡◌, refl, ℕ, ◌+◌, ◌≤◌, true, false, List, length}
+use Rattle.std.proofs.Common.{arith, length-take, length-drop}
 use Prim.Native.String.{String}
 use Rattle.rules.specs.declared.Word.{Word}
 use Rattle.rules.specs.declared.Word.TheVariants.{Bad, Name as Named, Number, Mark}
 use Rattle.rules.specs.Text.{pick}
 use Rattle.rules.specs.Outcome.{Out, ok, refuse, ◌>>=◌ as ◌and-then◌}
 use Rattle.rules.specs.Words.{word_at, key}
-use Rattle.rules.specs.Syntax.{Name}
-use Rattle.rules.specs.Readers.{Reader, ◌>>=◌, give, refused, marked, spelling, named, is_next, after, mark, a_name, if_next}
+use Rattle.rules.specs.Readers.{Reader, ◌>>=◌, spelling, is_next, after, mark, if_next}
 use Rattle.tape.specs.Layout.{spelt, name_w}
 use Rattle.words.specs.Onward.{Onward, wide as bytes_of}
 use Rattle.marks.specs.Marks.{mark_at, is_code}

@@ -1,5 +1,5 @@
 use borrow.Author.Tests.{not-true, not-false}
-use Rattle.sweep.specs.Laws.Steps.{argument-unknown, sort-bars, shape-bars, shape-stands}
+use Rattle.sweep.proofs.Laws.Steps.{argument-unknown, sort-bars, shape-bars, shape-stands}
 use borrow.Author.Rules.{rules}
 use Rattle.names.proofs.as_argument.Goals as goal
 

@@ -1,4 +1,4 @@
-use Rattle.sweep.specs.Laws.Steps.{call-no, call_fits, call-bars}
+use Rattle.sweep.proofs.Laws.Steps.{call-no, call_fits, call-bars}
 use borrow.Author.Rules.{rules}
 use Rattle.names.proofs.as_callee.Goals as goal
 

@@ -1,4 +1,4 @@
-use Rattle.sweep.specs.Laws.Steps.{name-unknown, name-bars, name-stands}
+use Rattle.sweep.proofs.Laws.Steps.{name-unknown, name-bars, name-stands}
 use borrow.Author.Rules.{rules}
 use Rattle.names.proofs.in_expression.Goals as goal
 

@@ -1,5 +1,5 @@
 use native.Mathlib.Omega.{arith}
-use Rattle.sweep.specs.Laws.Gather.{main-missing, main-generic, main-plain}
+use Rattle.sweep.proofs.Laws.Gather.{main-missing, main-generic, main-plain}
 use borrow.Author.Rules.{rules}
 use Rattle.names.proofs.main_block.Goals as goal
 

@@ -1,5 +1,5 @@
 use mathlib.Core.Path.{◌≡◌, ap, ◌∙◌}
-use Rattle.sweep.specs.Laws.Steps.{block-bars, block-begins}
+use Rattle.sweep.proofs.Laws.Steps.{block-bars, block-begins}
 use borrow.Author.Rules.{rules}
 use Rattle.names.proofs.on_block.Goals as goal
 

@@ -1,6 +1,6 @@
 use mathlib.Core.Path.{◌≡◌, refl, ap, ◌∙◌}
 use native.Mathlib.Omega.{arith}
-use Rattle.sweep.specs.Laws.Steps.{then-no, then-state, tells-done, tells-no, small-done}
+use Rattle.sweep.proofs.Laws.Steps.{then-no, then-state, tells-done, tells-no, small-done}
 use borrow.Author.Rules.{rules}
 use Rattle.names.proofs.on_callee.Goals as goal
 

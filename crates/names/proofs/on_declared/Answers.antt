@@ -1,6 +1,6 @@
 use mathlib.Core.Path.{◌≡◌, refl, ap, ◌∙◌}
 use lib.ListN.{length, take, length-set}
-use Rattle.sweep.specs.Laws.Steps.{declare-bars, declare-once}
+use Rattle.sweep.proofs.Laws.Steps.{declare-bars, declare-once}
 use borrow.Author.Rules.{rules}
 use Rattle.names.proofs.on_declared.Goals as goal
 

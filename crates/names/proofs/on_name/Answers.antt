@@ -1,6 +1,6 @@
 use mathlib.Core.Path.{◌≡◌, refl}
 use native.Mathlib.Omega.{arith}
-use Rattle.sweep.specs.Laws.Steps.{then-no, then-state, tells-done, tells-no}
+use Rattle.sweep.proofs.Laws.Steps.{then-no, then-state, tells-done, tells-no}
 use borrow.Author.Rules.{rules}
 use Rattle.names.proofs.on_name.Goals as goal
 

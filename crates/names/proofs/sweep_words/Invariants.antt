@@ -3,7 +3,7 @@ use mathlib.Core.Path.{◌≡◌, refl, sym, ap, ◌∙◌}
 use native.Mathlib.Omega.{arith}
 use lib.ListN.{length, get_or, set, take, drop, length-set}
 use Rattle.sweep.specs.Sweep.{state_of, start, turn, sweep, onto}
-use Rattle.sweep.specs.Laws.Turns.{says-word, says-halt, halts, goes, goes_same, begins, finished, after-end}
+use Rattle.sweep.proofs.Laws.Turns.{says-word, says-halt, halts, goes, goes_same, begins, finished, after-end}
 use borrow.Author.Rules.{rules}
 use Rattle.names.proofs.sweep_words.Given as goal
 

@@ -2,8 +2,8 @@ use mathlib.Core.Path.{◌≡◌, refl, ap, ◌∙◌}
 use Prim.Native.Nat.{◌+◌}
 use lib.ListN.{length, get_or, take, drop, length-set}
 use Rattle.sweep.specs.Sweep.{state_of, call_step}
-use Rattle.sweep.specs.Laws.Steps.{is-small}
-use Rattle.sweep.specs.Laws.Turns.{says-as, turn-name, turn-call, turn-argument, turn-index, turn_body, turn-block, turn-declared, turn-other}
+use Rattle.sweep.proofs.Laws.Steps.{is-small}
+use Rattle.sweep.proofs.Laws.Turns.{says-as, turn-name, turn-call, turn-argument, turn-index, turn_body, turn-block, turn-declared, turn-other}
 use borrow.Author.Rules.{rules}
 use Rattle.names.proofs.take_word.Goals as goal
 

@@ -1,12 +1,5 @@
 use Prim.Native.Nat.{◌≤◌, ◌-◌}
-use Rattle.netlist.proofs.Laws.{fine-is, Marked, marked-none, marked_more, twice, all-marked}
-use Rattle.netlist.specs.Decides.{so, not_so, holds, fails}
-use Rattle.rules.specs.Netlist.{inputs, wires}
-use Rattle.rules.specs.declared.Gate.{Gate}
-use borrow.Author.Rules.{rules}
-use borrow.Author.Tests.{not-true, not-false}
-use mathlib.Core.Path.{ap, sym, ◌∙◌}
-use native.Mathlib.Omega.{arith}
+use Rattle.netlist.proofs.Laws.{Marked}
 use Rattle.netlist.proofs.body.Given as goal
 
 abbrev pub invariant-loop-i : goal.invariant-loop-i

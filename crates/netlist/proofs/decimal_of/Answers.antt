@@ -1,5 +1,4 @@
 use Rattle.netlist.proofs.Laws.{digits_1, digits_2, digits_3, digits_4}
-use borrow.Author.Rules.{rules}
 use Rattle.netlist.proofs.decimal_of.Goals as goal
 
 pub returns-then-n-lt10 : goal.returns-then-n-lt10

@@ -1,5 +1,4 @@
 use Rattle.netlist.proofs.Laws.{record-at}
-use borrow.Author.Rules.{rules}
 use Rattle.netlist.proofs.gate_at.Goals as goal
 
 pub returns : goal.returns

@@ -1,5 +1,4 @@
 use Rattle.netlist.specs.Decides.{so, not_so}
-use borrow.Author.Rules.{rules}
 use native.Mathlib.Omega.{arith}
 use Rattle.netlist.proofs.head.Goals as goal
 

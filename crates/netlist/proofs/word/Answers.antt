@@ -1,5 +1,4 @@
 use Rattle.netlist.proofs.Laws.{past_end}
-use borrow.Author.Rules.{rules}
 use Rattle.netlist.proofs.word.Goals as goal
 
 pub returns : goal.returns

@@ -1,5 +1,4 @@
 use Rattle.run.specs.Going.{input, other}
-use borrow.Author.Rules.{rules}
 use Rattle.run.proofs.first.Goals as goal
 
 pub returns-then-i-inputs : goal.returns-then-i-inputs

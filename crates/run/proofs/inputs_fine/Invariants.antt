@@ -1,9 +1,5 @@
 use Prim.Native.Nat.{ℕ, ◌≤◌, ◌-◌, ◌<◌}
-use Rattle.netlist.specs.Decides.{so, not_so}
-use borrow.Author.Count.{below_more}
-use borrow.Author.Rules.{rules}
 use lib.ListN.{get_or, length}
-use native.Mathlib.Omega.{arith}
 use Rattle.run.proofs.inputs_fine.Given as goal
 
 abbrev pub invariant-loop-i : goal.invariant-loop-i

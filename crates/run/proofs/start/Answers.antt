@@ -1,8 +1,6 @@
-use Prim.Native.Nat.{◌≤◌, ◌-◌}
-use Rattle.run.specs.Visits.{Begun, begun-none, begun_more}
-use borrow.Author.Rules.{rules}
-use lib.ListN.{length, length-set}
-use mathlib.Core.Path.{◌≡◌, refl}
+use Rattle.run.specs.Visits.{begun-none, begun_more}
+use lib.ListN.{length-set}
+use mathlib.Core.Path.{refl}
 use native.Mathlib.Omega.{arith}
 use Rattle.run.proofs.start.Goals as goal
 
@@ -14,16 +12,15 @@ bounds-values-i c =
     omega (arith, c.loop-i.invariant.0, c.wide-wires.ensures, c.word.ensures, c.requires.well_formed.few-wires, c.requires.in_bounds.0)
 
 pub loop-i-preserved : goal.loop-i-preserved
-loop-i-preserved c =
-    (
-      simp length-set c.loop-i.invariant.0,
-      omega arith,
-      begun_more _ _ _ _ (omega (arith, c.loop-i.invariant.0, c.wide-wires.ensures, c.word.ensures, c.requires.well_formed.few-wires, c.requires.in_bounds.0)) c.first.ensures c.loop-i.invariant.2,
-    )
+loop-i-preserved c = (
+  simp length-set c.loop-i.invariant.0,
+  omega arith,
+  begun_more _ _ _ _ (omega (arith, c.loop-i.invariant.0, c.wide-wires.ensures, c.word.ensures, c.requires.well_formed.few-wires, c.requires.in_bounds.0)) c.first.ensures c.loop-i.invariant.2,
+)
 
 pub shape_of-values : goal.shape_of-values
 shape_of-values c = c.loop-i.invariant.0
 
 pub returns : goal.returns
 returns c =
-    record { by_index = λ i h. c.loop-i.invariant.2.first i (omega (arith, c.wide-wires.ensures, c.word.ensures)); by_index_2 = λ i h. c.loop-i.invariant.2.zero i (omega (arith, c.wide-wires.ensures, c.word.ensures)); }
+    record { by_index = λ i h. c.loop-i.invariant.2.first i (omega (arith, c.wide-wires.ensures, c.word.ensures)); by_index_2 = λ i h. c.loop-i.invariant.2.zero i (omega (arith, c.wide-wires.ensures, c.word.ensures)) }

@@ -1,9 +1,7 @@
 use Prim.Native.Nat.{◌≤◌, ◌-◌}
-use Rattle.run.specs.Visits.{Begun, begun-none, begun_more}
-use borrow.Author.Rules.{rules}
-use lib.ListN.{length, length-set}
-use mathlib.Core.Path.{◌≡◌, refl}
-use native.Mathlib.Omega.{arith}
+use Rattle.run.specs.Visits.{Begun}
+use lib.ListN.{length}
+use mathlib.Core.Path.{◌≡◌}
 use Rattle.run.proofs.start.Given as goal
 
 abbrev pub invariant-loop-i : goal.invariant-loop-i

@@ -1,15 +1,8 @@
-use Prim.Native.Nat.{ℕ, ◌≤◌, ◌-◌}
 use Rattle.rules.specs.Netlist.{gates}
-use Rattle.rules.specs.Run.{Inputs}
-use Rattle.run.specs.Going.{Going, Sweep, same}
+use Rattle.run.specs.Going.{same}
 use Rattle.run.specs.Visits.{visited, sweep-more, sweep-is}
-use borrow.Author.Rules.{rules}
-use lib.ListN.{length}
-use mathlib.Core.Bool.{Bool}
-use mathlib.Core.List.{List}
 use mathlib.Core.Path.{◌≡◌, refl, ◌∙◌}
 use native.Mathlib.Omega.{arith}
-use Rattle.run.proofs.sweep.Invariants.{Far}
 use Rattle.run.proofs.sweep.Goals as goal
 
 pub loop-i-init : goal.loop-i-init
@@ -17,20 +10,19 @@ loop-i-init c = (refl, omega arith, λ ins ok g. (g, same (λ j h. absurd (omega
 
 pub visit-requires : goal.visit-requires
 visit-requires c =
-    record { well_formed = c.requires.well_formed; in_bounds = (omega (arith, c.loop-i.invariant.0, c.requires.in_bounds), omega (arith, c.word-gates.ensures, c.loop-i-test.true)); }
+    record { well_formed = c.requires.well_formed; in_bounds = (omega (arith, c.loop-i.invariant.0, c.requires.in_bounds), omega (arith, c.word-gates.ensures, c.loop-i-test.true)) }
 
 pub loop-i-preserved : goal.loop-i-preserved
-loop-i-preserved c =
-    (
-      c.visit.auto.1.0 ∙ c.loop-i.invariant.0,
-      omega arith,
-      λ ins ok g0.
-          let s = c.loop-i.invariant.2 ins ok g0 in (
-            visited _ c.requires.well_formed ins ok (omega (arith, c.loop-i.invariant.0, c.requires.in_bounds)) (omega (arith, c.word-gates.ensures, c.loop-i-test.true)) s.0 c.visit.ensures,
-            sweep-is refl c.either-changed.ensures
-                (sweep-more _ c.requires.well_formed ins ok (omega (arith, c.loop-i.invariant.0, c.requires.in_bounds)) (omega (arith, c.word-gates.ensures, c.loop-i-test.true)) s.1 c.visit.ensures),
-          ),
-    )
+loop-i-preserved c = (
+  c.visit.auto.values ∙ c.loop-i.invariant.0,
+  omega arith,
+  λ ins ok g0.
+      let s = c.loop-i.invariant.2 ins ok g0 in (
+        visited _ c.requires.well_formed ins ok (omega (arith, c.loop-i.invariant.0, c.requires.in_bounds)) (omega (arith, c.word-gates.ensures, c.loop-i-test.true)) s.0 c.visit.ensures,
+        sweep-is refl c.either-changed.ensures
+            (sweep-more _ c.requires.well_formed ins ok (omega (arith, c.loop-i.invariant.0, c.requires.in_bounds)) (omega (arith, c.word-gates.ensures, c.loop-i-test.true)) s.1 c.visit.ensures),
+      ),
+)
 
 pub shape_of-values : goal.shape_of-values
 shape_of-values c = c.loop-i.invariant.0

@@ -1,14 +1,10 @@
 use Prim.Native.Nat.{ℕ, ◌≤◌, ◌-◌}
-use Rattle.rules.specs.Netlist.{gates}
 use Rattle.rules.specs.Run.{Inputs}
-use Rattle.run.specs.Going.{Going, Sweep, same}
-use Rattle.run.specs.Visits.{visited, sweep-more, sweep-is}
-use borrow.Author.Rules.{rules}
+use Rattle.run.specs.Going.{Going, Sweep}
 use lib.ListN.{length}
 use mathlib.Core.Bool.{Bool}
 use mathlib.Core.List.{List}
-use mathlib.Core.Path.{◌≡◌, refl, ◌∙◌}
-use native.Mathlib.Omega.{arith}
+use mathlib.Core.Path.{◌≡◌}
 use Rattle.run.proofs.sweep.Given as goal
 
 -- what is true of the values after the first n visits

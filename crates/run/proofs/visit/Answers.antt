@@ -1,5 +1,4 @@
 use Rattle.run.specs.Visits.{gate-fine, inside, still-has, still-a, still-b, still-c, settling}
-use borrow.Author.Rules.{rules}
 use native.Mathlib.Omega.{arith}
 use Rattle.run.proofs.visit.Goals as goal
 

@@ -1,10 +1,6 @@
-use Prim.Native.Nat.{◌-◌, ◌≤◌, ◌+◌}
-use mathlib.Core.Path.{◌≡◌, refl, sym, ◌∙◌}
+use mathlib.Core.Path.{refl, sym, ◌∙◌}
 use native.Mathlib.Omega.{arith}
-use lib.ListN.{length, drop}
-use Rattle.rules.specs.Text.{same}
-use Rattle.sweep.specs.Laws.Leaves.{other_length, step-no, step-yes, at-end}
-use borrow.Author.Rules.{rules}
+use Rattle.sweep.proofs.Laws.Leaves.{other_length, step-no, step-yes, at-end}
 use Rattle.spellings.proofs.alike.Goals as goal
 
 pub returns-then-a-b : goal.returns-then-a-b

@@ -1,10 +1,7 @@
-use Prim.Native.Nat.{◌-◌, ◌≤◌, ◌+◌}
-use mathlib.Core.Path.{◌≡◌, refl, sym, ◌∙◌}
-use native.Mathlib.Omega.{arith}
+use Prim.Native.Nat.{◌-◌, ◌≤◌}
+use mathlib.Core.Path.{◌≡◌}
 use lib.ListN.{length, drop}
 use Rattle.rules.specs.Text.{same}
-use Rattle.sweep.specs.Laws.Leaves.{other_length, step-no, step-yes, at-end}
-use borrow.Author.Rules.{rules}
 use Rattle.spellings.proofs.alike.Given as goal
 
 abbrev pub invariant-loop-i : goal.invariant-loop-i

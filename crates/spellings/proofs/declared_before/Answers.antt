@@ -1,5 +1,4 @@
-use Rattle.sweep.specs.Laws.Steps.{is-in, is-not-in}
-use borrow.Author.Rules.{rules}
+use Rattle.sweep.proofs.Laws.Steps.{is-in, is-not-in}
 use Rattle.spellings.proofs.declared_before.Goals as goal
 
 pub returns-in-At : goal.returns-in-At

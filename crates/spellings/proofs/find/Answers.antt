@@ -1,12 +1,7 @@
-use Prim.Native.Nat.{◌-◌, ◌≤◌, ◌+◌, min}
-use mathlib.Core.Path.{◌≡◌, sym, ◌∙◌}
+use mathlib.Core.Path.{sym, ◌∙◌}
 use native.Mathlib.Omega.{arith}
-use mathlib.Core.List.{map}
-use lib.ListN.{length, take, drop}
-use Rattle.rules.specs.Text.{index_of}
 use Rattle.sweep.specs.Spelling.{letters_of}
-use Rattle.sweep.specs.Laws.Leaves.{from_start, found_here, not-here, found_none}
-use borrow.Author.Rules.{rules}
+use Rattle.sweep.proofs.Laws.Leaves.{from_start, found_here, not-here, found_none}
 use Rattle.spellings.proofs.find.Goals as goal
 
 pub loop-i-init : goal.loop-i-init

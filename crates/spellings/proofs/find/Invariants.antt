@@ -1,12 +1,9 @@
-use Prim.Native.Nat.{◌-◌, ◌≤◌, ◌+◌, min}
-use mathlib.Core.Path.{◌≡◌, sym, ◌∙◌}
-use native.Mathlib.Omega.{arith}
+use Prim.Native.Nat.{◌-◌, ◌+◌, min}
+use mathlib.Core.Path.{◌≡◌}
 use mathlib.Core.List.{map}
 use lib.ListN.{length, take, drop}
 use Rattle.rules.specs.Text.{index_of}
 use Rattle.sweep.specs.Spelling.{letters_of}
-use Rattle.sweep.specs.Laws.Leaves.{from_start, found_here, not-here, found_none}
-use borrow.Author.Rules.{rules}
 use Rattle.spellings.proofs.find.Given as goal
 
 abbrev pub invariant-loop-i : goal.invariant-loop-i

@@ -1,12 +1,8 @@
-use Prim.Native.Nat.{◌-◌, ◌≤◌, ◌+◌, min}
-use mathlib.Core.Path.{◌≡◌, sym, ap, ◌∙◌}
+use mathlib.Core.Path.{sym, ap, ◌∙◌}
 use native.Mathlib.Omega.{arith}
-use mathlib.Core.List.{map}
-use lib.ListN.{length, take, drop}
-use Rattle.rules.specs.Text.{bytes, same, index_of}
+use Rattle.rules.specs.Text.{bytes, same}
 use Rattle.sweep.specs.Spelling.{letters_of}
-use Rattle.sweep.specs.Laws.Leaves.{from_start, found_here, not-here, found_none}
-use borrow.Author.Rules.{rules}
+use Rattle.sweep.proofs.Laws.Leaves.{from_start, found_here, not-here, found_none}
 use Rattle.spellings.proofs.find_main.Goals as goal
 
 pub loop-i-init : goal.loop-i-init

@@ -1,5 +1,4 @@
-use Rattle.sweep.specs.Laws.Leaves.{is-index}
-use borrow.Author.Rules.{rules}
+use Rattle.sweep.proofs.Laws.Leaves.{is-index}
 use Rattle.spellings.proofs.is_index.Goals as goal
 
 pub returns : goal.returns

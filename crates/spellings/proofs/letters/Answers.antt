@@ -1,5 +1,4 @@
-use Rattle.sweep.specs.Laws.Leaves.{letters-clipped}
-use borrow.Author.Rules.{rules}
+use Rattle.sweep.proofs.Laws.Leaves.{letters-clipped}
 use Rattle.spellings.proofs.letters.Goals as goal
 
 pub returns : goal.returns

@@ -1,5 +1,4 @@
-use Rattle.sweep.specs.Laws.Leaves.{role-generic, role-low, role-high}
-use borrow.Author.Rules.{rules}
+use Rattle.sweep.proofs.Laws.Leaves.{role-generic, role-low, role-high}
 use Rattle.spellings.proofs.role_of.Goals as goal
 
 pub returns-then-kind_of-eq-GENERIC : goal.returns-then-kind_of-eq-GENERIC

@@ -1,5 +1,4 @@
-use Rattle.sweep.specs.Laws.Leaves.{part-shape, wire-shape, vector-shape}
-use borrow.Author.Rules.{rules}
+use Rattle.sweep.proofs.Laws.Leaves.{part-shape, wire-shape, vector-shape}
 use Rattle.spellings.proofs.shape_fits.Goals as goal
 
 pub returns-then-head-ne0 : goal.returns-then-head-ne0

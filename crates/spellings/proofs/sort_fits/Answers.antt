@@ -1,5 +1,4 @@
-use Rattle.sweep.specs.Laws.Leaves.{whole-sort, part-sort}
-use borrow.Author.Rules.{rules}
+use Rattle.sweep.proofs.Laws.Leaves.{whole-sort, part-sort}
 use Rattle.spellings.proofs.sort_fits.Goals as goal
 
 pub returns-then-head-eq0 : goal.returns-then-head-eq0

@@ -1,5 +1,4 @@
-use Rattle.sweep.specs.Laws.Leaves.{stands-generic, stands-index, stands-not}
-use borrow.Author.Rules.{rules}
+use Rattle.sweep.proofs.Laws.Leaves.{stands-generic, stands-index, stands-not}
 use Rattle.spellings.proofs.stands.Goals as goal
 
 pub returns-then-role-eq3 : goal.returns-then-role-eq3

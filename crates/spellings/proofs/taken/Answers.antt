@@ -1,5 +1,4 @@
-use Rattle.sweep.specs.Laws.Steps.{taken-gate, taken-block, not_taken}
-use borrow.Author.Rules.{rules}
+use Rattle.sweep.proofs.Laws.Steps.{taken-gate, taken-block, not_taken}
 use Rattle.spellings.proofs.taken.Goals as goal
 
 pub returns-then-primitive-lt10 : goal.returns-then-primitive-lt10

@@ -1,7 +1,6 @@
 use Rattle.rules.specs.Text.{pick}
 use Rattle.values.specs.Taking.{after_of}
 use borrow.Author.Tests.{eq-eqb, ne_eqb}
-use borrow.Author.Rules.{rules}
 use Rattle.values.proofs.after.Goals as goal
 
 pub returns-then-kind_of-eq-BRACKET : goal.returns-then-kind_of-eq-BRACKET

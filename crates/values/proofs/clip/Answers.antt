@@ -1,6 +1,5 @@
 use Rattle.values.proofs.Signs.{clip-low, clip-high, clip-in, clip-fits}
 use Rattle.values.specs.declared.Number.TheVariants.{Is}
-use borrow.Author.Rules.{rules}
 use mathlib.Core.Path.{◌∙◌, ap}
 use mir.Facts.{to_z-of_z}
 use Rattle.values.proofs.clip.Goals as goal

@@ -1,6 +1,5 @@
 use Rattle.values.specs.Here.{goes_on}
-use borrow.Author.Tests.{eq-eqb, ne_eqb, lt-ltb, le-ltb, lt-leb, le-leb}
-use borrow.Author.Rules.{rules}
+use borrow.Author.Tests.{lt-ltb, le-ltb, lt-leb, le-leb}
 use Rattle.values.proofs.goes_on.Goals as goal
 
 pub returns-then-i-end : goal.returns-then-i-end

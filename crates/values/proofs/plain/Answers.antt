@@ -1,5 +1,5 @@
 use Rattle.rules.specs.Text.{pick}
-use Rattle.values.proofs.Signs.{wide, widened}
+use Rattle.values.proofs.Signs.{wide}
 use Rattle.values.specs.Numbers.{clipped}
 use Rattle.values.specs.Taking.{plain_of}
 use borrow.Author.Tests.{eq-eqb, ne_eqb}
@@ -13,18 +13,14 @@ use native.Mathlib.Omega.{arith}
 use borrow.Author.Rules.{rules}
 use Rattle.values.proofs.plain.Goals as goal
 
-x_fits : (c : tie.After-x) → SFits w32 (get_or c.before.before.before.before.args.values.now c.before.before.before.value-of.result (pos 0))
-x_fits c = search rules
-
 pub bounds-values-v : goal.bounds-values-v
 bounds-values-v c = rw c.value_of-v.ensures (c.requires (sym c.kind_of.ensures ∙ c.if-kind_of-eq-NAME.true))
 
-pub overflow_cast-x : goal.overflow_cast-x
-overflow_cast-x c = widened (x_fits c)
-
 pub returns-then-kind_of-eq-NAME : goal.returns-then-kind_of-eq-NAME
 unfolding plain_of pick
-returns-then-kind_of-eq-NAME c = rw (← c.kind_of.ensures, eq-eqb _ _ c.if-kind_of-eq-NAME.true, ← c.value_of-v.ensures) (c.clip.ensures ∙ ap clipped (wide (x_fits c.before)))
+returns-then-kind_of-eq-NAME c =
+    let x : SFits w32 (get_or c.args.values.now c.value_of-v.result (pos 0)) = search rules in
+    rw (← c.kind_of.ensures, eq-eqb _ _ c.if-kind_of-eq-NAME.true, ← c.value_of-v.ensures) (c.clip.ensures ∙ ap clipped (wide x))
 
 pub returns : goal.returns
 unfolding plain_of pick

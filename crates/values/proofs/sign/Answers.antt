@@ -1,8 +1,6 @@
 use Rattle.rules.specs.Text.{pick}
 use Rattle.values.specs.Factors.{signed}
 use borrow.Author.Tests.{eq-eqb, ne_eqb}
-use mathlib.Core.Path.{◌∙◌}
-use borrow.Author.Rules.{rules}
 use Rattle.values.proofs.sign.Goals as goal
 
 pub returns-then-head-eq0 : goal.returns-then-head-eq0

@@ -1,7 +1,6 @@
 use Rattle.values.specs.Sizes.{size_below, size-over, size_fits}
-use mathlib.Core.Path.{◌∙◌, ap, sym}
+use mathlib.Core.Path.{◌∙◌, sym}
 use mir.Facts.{to_z-of_z}
-use borrow.Author.Rules.{rules}
 use Rattle.values.proofs.sized.Goals as goal
 
 pub returns-in_default : goal.returns-in_default

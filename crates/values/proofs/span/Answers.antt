@@ -15,21 +15,12 @@ use native.Mathlib.Omega.{arith}
 use borrow.Author.Rules.{rules}
 use Rattle.values.proofs.span.Goals as goal
 
-x_fits : (c : tie.After-above) → SFits w32 c.before.before.before.before.before.before.first.given.0.0
-x_fits c = search rules
-
-y-fits : (c : tie.After-above) → SFits w32 c.before.before.last.given.0.0
-y-fits c = search rules
-
-gap : (c : tie.After-above) → c.above.result ≡ apart_of (c.before.before.last.given.0.0 -ℤ c.before.before.before.before.before.before.first.given.0.0)
-gap c = rw (to_z-of_z (x_fits c), to_z-of_z (y-fits c)) at c.above.ensures
-
 pub eval-first-requires : goal.eval-first-requires
 eval-first-requires c = record { exp = c.requires.left; here = c.requires.here.first }
 
 pub returns-in_default : goal.returns-in_default
 unfolding Says Turns
-returns-in_default c = bounds-first _ a b (rw c.in_default.is at (c.eval-first.ensures a h.first))
+returns-in_default c a b h = bounds-first _ a b (rw c.in_default.is at (c.eval-first.ensures a h.first))
 
 pub eval-last-requires : goal.eval-last-requires
 unfolding Says
@@ -39,23 +30,33 @@ eval-last-requires c =
 
 pub returns-in_default-last : goal.returns-in_default-last
 unfolding Says Turns
-returns-in_default-last c =
+returns-in_default-last c a b h =
     let p = rw c.in-At.is at (c.eval-first.ensures a h.first) in
     bounds-second _ a b p.0 (rw c.in_default-last.is at (c.eval-last.ensures b (rw p.1 h.second)))
 
-pub overflow_add-result : goal.overflow_add-result
-overflow_add-result c = omega (arith, apart-small _ (sub-fits (y-fits c.before.before.before) (x_fits c.before.before.before)) (sym c.in-By.is ∙ gap c.before.before.before))
-
 pub returns-in-Not : goal.returns-in-Not
 unfolding Says Turns
-returns-in-Not c =
+returns-in-Not c a b h =
+    let x : SFits w32 c.in-At.x = search rules in
+    let y : SFits w32 c.in-At-last.y = search rules in
+    let gap : c.above-more.result ≡ apart_of (c.in-At-last.y -ℤ c.in-At.x) = rw (to_z-of_z {w = w32} x, to_z-of_z {w = w32} y) at c.above-more.ensures in
     let p = rw c.in-At.is at (c.eval-first.ensures a h.first) in
     let q = rw c.in-At-last.is at (c.eval-last.ensures b (rw p.1 h.second)) in
-    rw (to_z-of_z (x_fits c.before.before)) (_, p.0, q.0, rounds-none _ (sym c.in-Not.is ∙ gap c.before.before), q.1 ∙ ap (λ i. i + length (exp_w slot_w 0 b)) p.1)
+    rw (to_z-of_z {w = w32} x) (_, p.0, q.0, rounds-none _ (sym c.in-Not.is ∙ gap), q.1 ∙ ap (λ i. i + length (exp_w slot_w 0 b)) p.1)
 
 pub returns-in-By : goal.returns-in-By
 unfolding Says Turns
-returns-in-By c =
+returns-in-By c a b h =
+    let x : SFits w32 c.in-At.x = search rules in
+    let y : SFits w32 c.in-At-last.y = search rules in
+    let gap : c.above-more.result ≡ apart_of (c.in-At-last.y -ℤ c.in-At.x) = rw (to_z-of_z {w = w32} x, to_z-of_z {w = w32} y) at c.above-more.ensures in
     let p = rw c.in-At.is at (c.eval-first.ensures a h.first) in
     let q = rw c.in-At-last.is at (c.eval-last.ensures b (rw p.1 h.second)) in
-    rw (to_z-of_z (x_fits c.before.before.before)) (_, p.0, q.0, rounds-some _ (sym c.in-By.is ∙ gap c.before.before.before), q.1 ∙ ap (λ i. i + length (exp_w slot_w 0 b)) p.1)
+    rw (to_z-of_z {w = w32} x) (_, p.0, q.0, rounds-some _ (sym c.in-By.is ∙ gap), q.1 ∙ ap (λ i. i + length (exp_w slot_w 0 b)) p.1)
+
+pub overflow_add-result : goal.overflow_add-result
+overflow_add-result c =
+    let x : SFits w32 c.in-At.x = search rules in
+    let y : SFits w32 c.in-At-last.y = search rules in
+    let gap : c.above-more.result ≡ apart_of (c.in-At-last.y -ℤ c.in-At.x) = rw (to_z-of_z {w = w32} x, to_z-of_z {w = w32} y) at c.above-more.ensures in
+    omega (arith, apart-small _ (sub-fits y x) (sym c.in-By.is ∙ gap))

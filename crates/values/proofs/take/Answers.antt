@@ -1,8 +1,6 @@
 use Rattle.rules.specs.Text.{pick}
 use Rattle.values.specs.Factors.{step, taken}
 use borrow.Author.Tests.{eq-eqb, ne_eqb}
-use mathlib.Core.Path.{◌∙◌}
-use borrow.Author.Rules.{rules}
 use Rattle.values.proofs.take.Goals as goal
 
 pub returns-then-mark-eq-TIMES : goal.returns-then-mark-eq-TIMES

@@ -1,4 +1,3 @@
-use borrow.Author.Rules.{rules}
 use Rattle.words.proofs.Spelled.{dot-last, two-dots, one-dot}
 use Rattle.words.proofs.dots.Goals as goal
 

@@ -1,9 +1,5 @@
-use Prim.Native.Nat.{◌+◌, ◌-◌, ◌≤◌}
-use mathlib.Core.Path.{◌≡◌, sym, ◌∙◌}
+use mathlib.Core.Path.{sym, ◌∙◌}
 use native.Mathlib.Omega.{arith}
-use lib.ListN.{length, take, drop}
-use borrow.Author.Rules.{rules}
-use Rattle.rules.specs.Text.{same}
 use Rattle.words.proofs.Same.{other_length, step-no, step-yes, whole, at-end}
 use Rattle.words.proofs.is_word.Goals as goal
 

@@ -1,10 +1,7 @@
 use Prim.Native.Nat.{◌+◌, ◌-◌, ◌≤◌}
-use mathlib.Core.Path.{◌≡◌, sym, ◌∙◌}
-use native.Mathlib.Omega.{arith}
+use mathlib.Core.Path.{◌≡◌}
 use lib.ListN.{length, take, drop}
-use borrow.Author.Rules.{rules}
 use Rattle.rules.specs.Text.{same}
-use Rattle.words.proofs.Same.{other_length, step-no, step-yes, whole, at-end}
 use Rattle.words.proofs.is_word.Given as goal
 
 abbrev pub invariant-loop-i : goal.invariant-loop-i

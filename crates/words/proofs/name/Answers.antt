@@ -1,4 +1,3 @@
-use borrow.Author.Rules.{rules}
 use Rattle.words.proofs.Spelled.{no-letter, a-name, too_long}
 use Rattle.words.proofs.name.Goals as goal
 

@@ -1,12 +1,8 @@
-use Prim.Native.Nat.{◌+◌, ◌-◌}
-use mathlib.Core.Path.{◌≡◌}
 use native.Mathlib.Omega.{arith}
-use lib.ListN.{length, drop, get_or}
+use lib.ListN.{get_or}
 use Rattle.words.specs.Classes.{in_classes}
-use Rattle.rules.specs.Words.{run}
 use Rattle.words.proofs.Runs.{run_end, run-stop, run_more}
 use Rattle.words.proofs.Classes.{low, high, within}
-use borrow.Author.Rules.{rules}
 use Rattle.words.proofs.run_end.Goals as goal
 
 pub returns-then-class-lo : goal.returns-then-class-lo

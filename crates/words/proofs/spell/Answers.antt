@@ -1,4 +1,3 @@
-use borrow.Author.Rules.{rules}
 use Rattle.words.proofs.Spelled.{a-reserved, long-word, not-digits, a-number}
 use Rattle.words.proofs.spell.Goals as goal
 

@@ -1,9 +1,6 @@
-use Prim.Native.Nat.{◌+◌, ◌-◌, ◌*◌, ◌^◌, ◌≤◌}
+use Prim.Native.Nat.{◌-◌}
 use mathlib.Core.Path.{◌≡◌, refl, sym, ◌∙◌}
 use native.Mathlib.Omega.{arith}
-use lib.ListN.{take, drop}
-use borrow.Author.Rules.{rules}
-use Rattle.rules.specs.Words.{value_of}
 use Rattle.words.proofs.Runs.{value-more, value-end, ten-more, ten-six}
 use Rattle.words.proofs.value.Goals as goal
 

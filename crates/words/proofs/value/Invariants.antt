@@ -1,10 +1,7 @@
 use Prim.Native.Nat.{◌+◌, ◌-◌, ◌*◌, ◌^◌, ◌≤◌}
-use mathlib.Core.Path.{◌≡◌, refl, sym, ◌∙◌}
-use native.Mathlib.Omega.{arith}
+use mathlib.Core.Path.{◌≡◌}
 use lib.ListN.{take, drop}
-use borrow.Author.Rules.{rules}
 use Rattle.rules.specs.Words.{value_of}
-use Rattle.words.proofs.Runs.{value-more, value-end, ten-more, ten-six}
 use Rattle.words.proofs.value.Given as goal
 
 abbrev pub invariant-loop-i : goal.invariant-loop-i

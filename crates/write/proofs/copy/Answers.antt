@@ -1,8 +1,6 @@
-use Prim.Native.Nat.{◌+◌, ◌-◌, ◌≤◌}
-use Rattle.write.specs.Put.{Put, put-none, put_next, put-more, put_all}
-use borrow.Author.Rules.{rules}
-use lib.ListN.{length, take, length-set}
-use mathlib.Core.Path.{◌≡◌, refl}
+use Rattle.write.specs.Put.{put-none, put_next, put-more, put_all}
+use lib.ListN.{length-set}
+use mathlib.Core.Path.{refl}
 use native.Mathlib.Omega.{arith}
 use Rattle.write.proofs.copy.Goals as goal
 

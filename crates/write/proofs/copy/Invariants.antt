@@ -1,9 +1,7 @@
 use Prim.Native.Nat.{◌+◌, ◌-◌, ◌≤◌}
-use Rattle.write.specs.Put.{Put, put-none, put_next, put-more, put_all}
-use borrow.Author.Rules.{rules}
-use lib.ListN.{length, take, length-set}
-use mathlib.Core.Path.{◌≡◌, refl}
-use native.Mathlib.Omega.{arith}
+use Rattle.write.specs.Put.{Put}
+use lib.ListN.{length, take}
+use mathlib.Core.Path.{◌≡◌}
 use Rattle.write.proofs.copy.Given as goal
 
 abbrev pub invariant-loop-i : goal.invariant-loop-i

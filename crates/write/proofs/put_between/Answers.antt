@@ -1,7 +1,6 @@
 use Rattle.write.specs.Pieces.{between_none, between-some}
 use Rattle.write.specs.Put.{put-none, put_is}
 use Rattle.write.specs.Writes.{between-room}
-use borrow.Author.Rules.{rules}
 use mathlib.Core.Path.{sym}
 use native.Mathlib.Omega.{arith}
 use Rattle.write.proofs.put_between.Goals as goal

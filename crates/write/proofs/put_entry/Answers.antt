@@ -1,7 +1,6 @@
 use Rattle.rules.specs.Flat.{wire_text, entry_text}
 use Rattle.rules.specs.Text.{bytes}
 use Rattle.write.specs.Put.{begin, step, room_of, finish}
-use borrow.Author.Rules.{rules}
 use mathlib.Core.List.{[], ◌∷◌}
 use Rattle.write.proofs.put_entry.Goals as goal
 

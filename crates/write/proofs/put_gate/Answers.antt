@@ -1,6 +1,5 @@
 use Rattle.write.specs.Pieces.{gate_of, gate-of}
 use Rattle.write.specs.Put.{begin-one, apart, step, room_of, finish}
-use borrow.Author.Rules.{rules}
 use native.Mathlib.Omega.{arith}
 use Rattle.write.proofs.put_gate.Goals as goal
 

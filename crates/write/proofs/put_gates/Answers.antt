@@ -1,11 +1,8 @@
-use Prim.Native.Nat.{◌-◌, ◌≤◌}
 use Rattle.rules.specs.Flat.{gate_text, gates_text}
 use Rattle.write.specs.Pieces.{gates-begin, gates-open, gates-close}
-use Rattle.write.specs.Put.{Writing, put_is, room_as, begin-one, piece_is, apart, step, room_of, finish}
-use borrow.Author.Rules.{rules}
-use lib.ListN.{length}
-use mathlib.Core.List.{[], ◌∷◌}
-use mathlib.Core.Path.{◌≡◌, refl, ap, ◌∙◌}
+use Rattle.write.specs.Put.{put_is, room_as, begin-one, piece_is, apart, step, room_of, finish}
+use mathlib.Core.List.{[]}
+use mathlib.Core.Path.{refl, ap, ◌∙◌}
 use native.Mathlib.Omega.{arith}
 use Rattle.write.proofs.put_gates.Goals as goal
 
@@ -41,7 +38,7 @@ loop-i-preserved c =
     let gate = ap gate_text c.gate_at-g.ensures in
     let w1 = step w0 (put_is gate c.put_gate-p.ensures) in
     let w2 = step w1 c.put_between-p.ensures in
-    (c.put-p.auto.0 ∙ c.put_between-p.auto.0 ∙ c.put_gate-p.auto.0 ∙ c.loop-i.invariant.0, omega arith, step w2 c.put-p.ensures)
+    (c.put-p.auto.text ∙ c.put_between-p.auto.text ∙ c.put_gate-p.auto.text ∙ c.loop-i.invariant.0, omega arith, step w2 c.put-p.ensures)
 
 pub shape_of-text : goal.shape_of-text
 shape_of-text c = c.loop-i.invariant.0

@@ -1,12 +1,9 @@
 use Prim.Native.Nat.{◌-◌, ◌≤◌}
-use Rattle.rules.specs.Flat.{gate_text, gates_text}
-use Rattle.write.specs.Pieces.{gates-begin, gates-open, gates-close}
-use Rattle.write.specs.Put.{Writing, put_is, room_as, begin-one, piece_is, apart, step, room_of, finish}
-use borrow.Author.Rules.{rules}
+use Rattle.rules.specs.Flat.{gates_text}
+use Rattle.write.specs.Put.{Writing}
 use lib.ListN.{length}
 use mathlib.Core.List.{[], ◌∷◌}
-use mathlib.Core.Path.{◌≡◌, refl, ap, ◌∙◌}
-use native.Mathlib.Omega.{arith}
+use mathlib.Core.Path.{◌≡◌}
 use Rattle.write.proofs.put_gates.Given as goal
 
 abbrev pub invariant-loop-i : goal.invariant-loop-i

@@ -1,7 +1,6 @@
 use Rattle.rules.specs.Primitives.{primitive}
 use Rattle.write.specs.Put.{put_is, room_as}
 use Rattle.write.specs.Writes.{first-ones, first-fit}
-use borrow.Author.Rules.{rules}
 use lib.Seq.{length-take-le}
 use mathlib.Core.Path.{sym}
 use Rattle.write.proofs.put_name.Goals as goal

@@ -1,11 +1,6 @@
-use Prim.Native.Nat.{◌+◌, ◌-◌, ◌≤◌}
-use Rattle.rules.specs.Flat.{ports_text}
 use Rattle.write.specs.Pieces.{ports-begin, ports-open, ports-close}
-use Rattle.write.specs.Put.{Writing, begin-one, piece_is, apart, step, room_of, finish}
-use borrow.Author.Rules.{rules}
-use lib.ListN.{length}
-use mathlib.Core.List.{[], ◌∷◌}
-use mathlib.Core.Path.{◌≡◌, refl, ◌∙◌}
+use Rattle.write.specs.Put.{begin-one, piece_is, apart, step, room_of, finish}
+use mathlib.Core.Path.{refl, ◌∙◌}
 use native.Mathlib.Omega.{arith}
 use Rattle.write.proofs.put_ports.Goals as goal
 
@@ -27,7 +22,7 @@ pub loop-i-preserved : goal.loop-i-preserved
 loop-i-preserved c =
     let w0 = apart _ (ports-open _ _ _ c.loop-i-test.true) c.loop-i.invariant.2 in
     let w1 = step w0 c.put_entry-p.ensures in
-    (c.put_between-p.auto.0 ∙ c.put_entry-p.auto.0 ∙ c.loop-i.invariant.0, omega arith, step w1 c.put_between-p.ensures)
+    (c.put_between-p.auto.text ∙ c.put_entry-p.auto.text ∙ c.loop-i.invariant.0, omega arith, step w1 c.put_between-p.ensures)
 
 pub copy-requires : goal.copy-requires
 copy-requires c =
@@ -35,7 +30,7 @@ copy-requires c =
     room_of end
 
 pub shape_of-text : goal.shape_of-text
-shape_of-text c = c.copy.auto.0 ∙ c.loop-i.invariant.0
+shape_of-text c = c.copy.auto.text ∙ c.loop-i.invariant.0
 
 pub returns : goal.returns
 returns c =

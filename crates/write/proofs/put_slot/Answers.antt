@@ -1,7 +1,5 @@
-use Prim.Native.Nat.{◌-◌}
 use Rattle.write.specs.Pieces.{slot-used, slot-free, between_none, between-some}
 use Rattle.write.specs.Put.{put-none, put_is, begin-one, piece_is, apart, step, room_of, finish}
-use borrow.Author.Rules.{rules}
 use mathlib.Core.Path.{sym}
 use native.Mathlib.Omega.{arith}
 use Rattle.write.proofs.put_slot.Goals as goal

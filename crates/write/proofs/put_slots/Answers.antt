@@ -1,6 +1,5 @@
 use Rattle.write.specs.Pieces.{slots_of, slots-of}
 use Rattle.write.specs.Put.{put_is, begin, step, room_of, finish}
-use borrow.Author.Rules.{rules}
 use lib.ListN.{length}
 use mathlib.Core.Path.{ap}
 use native.Mathlib.Omega.{arith}

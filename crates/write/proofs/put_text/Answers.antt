@@ -2,7 +2,6 @@ use Rattle.rules.specs.Netlist.{gates}
 use Rattle.write.specs.Fits.{flat-fits}
 use Rattle.write.specs.Pieces.{parts, parts-of}
 use Rattle.write.specs.Put.{put_is, begin, step, room_of, finish}
-use borrow.Author.Rules.{rules}
 use lib.ListN.{length}
 use mathlib.Core.Path.{refl, ap}
 use native.Mathlib.Omega.{arith}
@@ -81,7 +80,7 @@ put_gates-g-requires c =
     let w4 = step w3 c.put_ports-d.ensures in
     let w5 = step w4 c.put_vars-e.ensures in
     let w6 = step w5 c.copy-f.ensures in
-    (c.requires.well_formed, room_of w6)
+    record { well_formed = c.requires.well_formed; net_in_bounds = room_of w6 }
 
 pub copy-requires : goal.copy-requires
 copy-requires c =

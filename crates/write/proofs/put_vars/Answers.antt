@@ -1,11 +1,7 @@
-use Prim.Native.Nat.{◌+◌, ◌-◌, ◌≤◌}
-use Rattle.rules.specs.Flat.{vars_text}
 use Rattle.write.specs.Pieces.{vars-begin, vars-open, vars-close}
-use Rattle.write.specs.Put.{Writing, begin-one, piece_is, apart, step, room_of, finish}
-use borrow.Author.Rules.{rules}
-use lib.ListN.{length}
-use mathlib.Core.List.{[], ◌∷◌}
-use mathlib.Core.Path.{◌≡◌, refl, ◌∙◌}
+use Rattle.write.specs.Put.{begin-one, piece_is, apart, step, room_of, finish}
+use mathlib.Core.List.{[]}
+use mathlib.Core.Path.{refl, ◌∙◌}
 use native.Mathlib.Omega.{arith}
 use Rattle.write.proofs.put_vars.Goals as goal
 
@@ -35,7 +31,7 @@ loop-i-preserved c =
     let w0 = apart _ (vars-open _ _ _ c.loop-i-test.true) c.loop-i.invariant.2 in
     let w1 = step w0 c.copy-p.ensures in
     let w2 = step w1 c.put_entry-p.ensures in
-    (c.copy-p-in-loop-i.auto.0 ∙ c.put_entry-p.auto.0 ∙ c.copy-p.auto.0 ∙ c.loop-i.invariant.0, omega arith, step w2 c.copy-p-in-loop-i.ensures)
+    (c.copy-p-in-loop-i.auto.text ∙ c.put_entry-p.auto.text ∙ c.copy-p.auto.text ∙ c.loop-i.invariant.0, omega arith, step w2 c.copy-p-in-loop-i.ensures)
 
 pub shape_of-text : goal.shape_of-text
 shape_of-text c = c.loop-i.invariant.0

@@ -1,12 +1,9 @@
 use Prim.Native.Nat.{◌+◌, ◌-◌, ◌≤◌}
 use Rattle.rules.specs.Flat.{vars_text}
-use Rattle.write.specs.Pieces.{vars-begin, vars-open, vars-close}
-use Rattle.write.specs.Put.{Writing, begin-one, piece_is, apart, step, room_of, finish}
-use borrow.Author.Rules.{rules}
+use Rattle.write.specs.Put.{Writing}
 use lib.ListN.{length}
 use mathlib.Core.List.{[], ◌∷◌}
-use mathlib.Core.Path.{◌≡◌, refl, ◌∙◌}
-use native.Mathlib.Omega.{arith}
+use mathlib.Core.Path.{◌≡◌}
 use Rattle.write.proofs.put_vars.Given as goal
 
 abbrev pub invariant-loop-i : goal.invariant-loop-i

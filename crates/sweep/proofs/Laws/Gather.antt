@@ -1,18 +1,18 @@
 -- Laws of gathering the headings, and of finding main. Assumes nothing.
-use Rattle.std.specs.Prelude.{◌≡◌, refl, Bool, true, false, not, ◌&&◌, List, [], ◌∷◌, ◌++◌, map, ℕ, zero, suc, ◌+◌, ◌-◌, ◌<◌, ◌≤◌, min, eqb, ltb, length, get_or, set, take, drop}
+use Rattle.std.specs.Prelude.{◌≡◌, Bool, true, false, List, ◌∷◌, map, ℕ, ◌+◌, ◌<◌, ◌≤◌, length, get_or, set, take, drop}
 use Rattle.std.proofs.Math.Path.{sym}
-use Rattle.std.proofs.Common.{ap, ◌∙◌, subst, arith, length-take, get_or-take}
+use Rattle.std.proofs.Common.{ap, subst, arith, length-take, get_or-take}
 use Rattle.std.proofs.lemmas.List.{length-map}
 use borrow.Author.Tests.{eq-eqb, ne_eqb, lt-ltb, le-ltb}
-use Rattle.rules.specs.Text.{bytes, pick, index_of, is_in}
-use Rattle.rules.specs.Outcome.{Out, ok, refuse, ◌>>=◌, at, need, need_at}
+use Rattle.rules.specs.Text.{bytes, pick}
+use Rattle.rules.specs.Outcome.{ok, refuse, ◌>>=◌, at, need}
 use Rattle.tape.specs.Layout.{kind_of, BLOCK}
 use Rattle.tape.specs.Written.{put}
 use Rattle.sweep.specs.declared.Found.{Found}
 use Rattle.sweep.specs.declared.Found.TheVariants.{At, Nothing}
 use Rattle.sweep.specs.Spelling.{place_of, letters_of}
 use Rattle.sweep.specs.Sweep.{heading, headings, titles, firsts, main_in, Finds}
-use Rattle.sweep.specs.Laws.Counts.{opened, none_left}
+use Rattle.sweep.proofs.Laws.Counts.{opened, none_left}
 
 module _ (t : List ℕ) (end i : ℕ) (l : end ≤ length t) (h : i < end) where
   module _ (b : Bool) (e : b ≡ heading (get_or t i 0)) where

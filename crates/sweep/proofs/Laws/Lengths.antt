@@ -9,9 +9,9 @@ use Rattle.rules.proofs.Laws.Outcomes.{ok-inj, inv, inv_at}
 use Rattle.tape.specs.Layout.{pack, BODY, IN, OUT, VAR, name_w}
 use Rattle.tape.specs.Encoding.{list_w, exp_w, stmts_w, sort_w, decl_w, generic_w, block_w, callee_w, tape_of}
 use Rattle.tape.specs.Resolved.{slot_w, meant_w, resolved_tape}
-use Rattle.sweep.specs.Laws.Expressions.{exp-length}
-use Rattle.sweep.specs.Laws.Bodies.{stmts-length}
-use Rattle.sweep.specs.Laws.Blocks.{five}
+use Rattle.sweep.proofs.Laws.Expressions.{exp-length}
+use Rattle.sweep.proofs.Laws.Bodies.{stmts-length}
+use Rattle.sweep.proofs.Laws.Blocks.{five}
 
 sort-length : (E : Scope) (k v : ℕ) (t : Sort Name) {t' : Sort ℕ} → sort E t ≡ ok t' → length (sort_w slot_w k v t') ≡ length (sort_w name_w k v t)
 unfolding sort sort_w

@@ -1,5 +1,5 @@
 -- Laws of one word: what finding its name gives. Assumes nothing.
-use Rattle.std.specs.Prelude.{◌≡◌, refl, Bool, true, false, not, ◌&&◌, ◌||◌, List, [], ◌∷◌, ◌++◌, map, ℕ, zero, suc, ◌+◌, ◌-◌, ◌<◌, ◌≤◌, min, eqb, ltb, length, get_or, take, drop}
+use Rattle.std.specs.Prelude.{◌≡◌, refl, Bool, true, false, ◌||◌, List, [], ◌∷◌, ◌++◌, map, ℕ, zero, suc, ◌+◌, ◌<◌, ◌≤◌, min, eqb, ltb, length, get_or, take}
 use Rattle.std.proofs.Common.{sym, ap, ◌∙◌, subst, arith, length-take, length-append, get_or-take, take-take, take_all}
 use Rattle.std.proofs.Math.Path.{subst⁻¹}
 use Rattle.std.proofs.Math.Decide.{dec_le}
@@ -8,11 +8,11 @@ use borrow.Author.Tests.{lt-ltb, le-ltb, ltb-true, ltb-false}
 use Rattle.rules.specs.Text.{pick, same, index_of, is_in}
 use Rattle.rules.specs.Primitives.{primitive_names}
 use Rattle.rules.specs.Outcome.{Out, ok, refuse, ◌>>=◌, at, need}
-use Rattle.rules.specs.Names.{Role, a-generic, is_index, Entry, Scope, spellings, find, role_at, once}
+use Rattle.rules.specs.Names.{is_index, spellings, find, role_at, once}
 use Rattle.tape.specs.Layout.{head_in}
 use Rattle.sweep.specs.declared.Found.{Found}
 use Rattle.sweep.specs.declared.Found.TheVariants.{At, Nothing}
-use Rattle.sweep.specs.Spelling.{place_of, letters_of, name_of, role_in, entry_of, scope_in}
+use Rattle.sweep.specs.Spelling.{place_of, letters_of, name_of, role_in, scope_in}
 use Rattle.sweep.specs.Sweep.{standing, sort_fits, shape_fits, name_step, index_step, argument_step, callee_in, call_step, counts_fit, heading_of, block_step, declare_step, after, State, Finds, Tells, Small}
 use Rattle.sweep.specs.declared.Heading.{Heading}
 use Rattle.sweep.specs.declared.Named.{Named}

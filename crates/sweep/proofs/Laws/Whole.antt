@@ -1,35 +1,34 @@
 -- The sweep over a program's tape, and main after it, are the rule for names. Assumes nothing.
-use Rattle.std.specs.Prelude.{◌≡◌, Bool, true, false, ◌&&◌, ltb, length, set, take, drop, replicate}
+use Rattle.std.specs.Prelude.{◌≡◌, Bool, true, false, ltb, length, set, take, drop}
 use Rattle.std.proofs.Math.Path.{refl, sym, ap}
-use Rattle.std.proofs.Common.{◌∙◌, subst, arith, length-append, length-take, length-set, take-append-drop, ext_get_or, get_or-take, eq-eqb, ne_eqb, lt-ltb, le-ltb}
+use Rattle.std.proofs.Common.{◌∙◌, subst, arith, length-take, length-set, take-append-drop, ext_get_or, get_or-take, ne_eqb, lt-ltb, le-ltb}
 use Rattle.std.proofs.Math.Bool.{not}
 use mathlib.Core.List.{List, [], ◌∷◌, ◌++◌, map, append-nil}
-use Prim.Native.Nat.{ℕ, zero, suc, ◌+◌, ◌*◌, ◌-◌, ◌<◌, ◌≤◌, min}
+use Prim.Native.Nat.{ℕ, zero, suc, ◌+◌, ◌-◌, ◌<◌, ◌≤◌}
 use Rattle.std.proofs.Math.Dec.{eqb, leb-suc-suc}
-use Rattle.std.proofs.Math.ListN.{get_or, length-map, get_or-eq_default}
-use Rattle.rules.specs.Text.{bytes, pick, index_of, is_in}
+use Rattle.std.proofs.Math.ListN.{get_or, length-map}
+use Rattle.rules.specs.Text.{bytes, pick, index_of}
 use Rattle.rules.specs.Outcome.{Out, ok, refuse, ◌>>=◌, at, need, need_at, nth}
 use Rattle.rules.specs.Syntax.{Name, Block, Spelled, Callee, Program}
 use Rattle.rules.specs.Names.{among}
 use Rattle.rules.specs.Resolve.{resolve_blocks, main_of, names}
 use Rattle.rules.proofs.Laws.Outcomes.{nth-any}
 use Rattle.rules.proofs.Laws.Spelt.{SpeltBlock, All}
-use Rattle.tape.specs.Layout.{pack, kind_of, BLOCK, GENERIC, name_w}
-use Rattle.tape.specs.Encoding.{list_w, block_w, blocks_w, callee_w, tape_of}
-use Rattle.tape.specs.Resolved.{slot_w, meant_w, resolved_tape}
+use Rattle.tape.specs.Layout.{kind_of, BLOCK, GENERIC, name_w}
+use Rattle.tape.specs.Encoding.{list_w, block_w, callee_w, tape_of}
+use Rattle.tape.specs.Resolved.{slot_w, meant_w}
 use Rattle.tape.specs.Written.{put}
 use Rattle.tape.specs.Lies.{Lies}
-use Rattle.sweep.specs.Spelling.{place_of, letters_of}
-use Rattle.sweep.specs.Sweep.{State, start, headings, titles, firsts, leading, heading_at, Rows, Answers, Swept, main_in, after, onto, sweep}
+use Rattle.sweep.specs.Spelling.{place_of}
+use Rattle.sweep.specs.Sweep.{start, headings, titles, firsts, leading, heading_at, Rows, Answers, Swept, main_in, after, sweep}
 use Rattle.sweep.specs.Resolves.{Holds, Readable, Right, Resolves}
 use Rattle.sweep.specs.declared.Named.{Named}
 use Rattle.sweep.specs.declared.Named.TheVariants.{Done, No}
-use Rattle.sweep.specs.Laws.Expressions.{emit, name-place}
-use Rattle.sweep.specs.Laws.Callees.{Knows, Heads}
-use Rattle.sweep.specs.Laws.Blocks.{blocks-swept}
-use Rattle.sweep.specs.Laws.Headings.{title_w, head_w, starts, tape-headings, tape-titles, tape-firsts}
-use Rattle.sweep.specs.Laws.Known.{zeros, zeros-length, put-list, heads-short, starts-below, F-list, N-list, known}
-use Rattle.sweep.specs.Laws.Known as rows
+use Rattle.sweep.proofs.Laws.Expressions.{emit, name-place}
+use Rattle.sweep.proofs.Laws.Callees.{Knows, Heads}
+use Rattle.sweep.proofs.Laws.Blocks.{blocks-swept}
+use Rattle.sweep.proofs.Laws.Headings.{title_w, head_w, starts, tape-headings, tape-titles, tape-firsts}
+use Rattle.sweep.proofs.Laws.Known.{zeros, zeros-length, put-list, heads-short, starts-below, F-list, N-list, known}
 
 -- ---- main
 

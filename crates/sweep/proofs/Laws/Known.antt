@@ -1,7 +1,7 @@
 -- The rows that are gathered from a program's tape say what its blocks want. Assumes nothing.
-use Rattle.std.specs.Prelude.{◌≡◌, Bool, true, false, not, ◌&&◌, eqb, ltb, set, take, replicate}
+use Rattle.std.specs.Prelude.{◌≡◌, eqb, set, take, replicate}
 use Rattle.std.proofs.Math.Path.{refl, sym, ap, subst}
-use Rattle.std.proofs.Common.{◌∙◌, add-one, get_or-drop, drop-drop, drop_at, take_at, get_or-append-add}
+use Rattle.std.proofs.Common.{◌∙◌, add-one, get_or-drop, drop-drop, drop_at, take_at}
 use mathlib.Core.List.{List, [], ◌∷◌, ◌++◌, map, append_assoc, append-nil}
 use Prim.Native.Nat.{ℕ, zero, suc, ◌+◌, ◌*◌, ◌-◌, ◌<◌, ◌≤◌}
 use native.Mathlib.Omega.{arith}
@@ -10,22 +10,22 @@ use Rattle.std.proofs.lemmas.List.{length-map, length-replicate}
 use Rattle.std.proofs.lemmas.List.Edits.{sets, sets-eq}
 use borrow.Author.Tests.{eq-eqb, ne_eqb}
 use Rattle.rules.specs.Text.{pick}
-use Rattle.rules.specs.Outcome.{Out, ok, refuse, nth}
+use Rattle.rules.specs.Outcome.{ok, nth}
 use Rattle.rules.specs.Syntax.{Name, Sort, wire, vector, num, Decl, Block, Spelled}
 use Rattle.rules.specs.Names.{Role, a-wire, is_wire, role_of}
 use Rattle.rules.proofs.Laws.Outcomes.{no_ok, ok-inj}
 use Rattle.rules.proofs.Laws.Scoped.{nth-below}
-use Rattle.rules.proofs.Laws.Spelt.{SpeltName, SpeltBlock, All, AllDecl, SpeltCall}
-use Rattle.tape.specs.Layout.{pack, kind_of, head_in, BLOCK, GENERIC, IN, OUT, name_w, kind-of, head-of}
+use Rattle.rules.proofs.Laws.Spelt.{SpeltName, SpeltBlock, All}
+use Rattle.tape.specs.Layout.{BLOCK, GENERIC, IN, OUT, name_w, kind-of, head-of}
 use Rattle.tape.specs.Encoding.{list_w}
 use Rattle.tape.specs.Written.{put}
 use Rattle.sweep.specs.Spelling.{letters_of}
-use Rattle.sweep.specs.Sweep.{leading, heading_at, Rows}
-use Rattle.sweep.specs.Laws.Expressions.{name-fits, name-letters}
-use Rattle.sweep.specs.Laws.Arguments.{Wanted}
-use Rattle.sweep.specs.Laws.Callees.{Knows, Heads, counted, roles}
-use Rattle.sweep.specs.Laws.Declarations.{head_of_sort, head-of-sort}
-use Rattle.sweep.specs.Laws.Headings.{port_w, gen_w, title_w, head_w, starts, SpeltD, title-kind}
+use Rattle.sweep.specs.Sweep.{leading, heading_at}
+use Rattle.sweep.proofs.Laws.Expressions.{name-fits, name-letters}
+use Rattle.sweep.proofs.Laws.Arguments.{Wanted}
+use Rattle.sweep.proofs.Laws.Callees.{Knows, Heads, roles}
+use Rattle.sweep.proofs.Laws.Declarations.{head_of_sort, head-of-sort}
+use Rattle.sweep.proofs.Laws.Headings.{port_w, gen_w, title_w, head_w, starts, SpeltD, title-kind}
 
 -- ---- stores
 

@@ -1,26 +1,25 @@
 -- What a call's name means by the headings is what the rule says. Assumes nothing.
-use Rattle.std.specs.Prelude.{◌≡◌, Bool, ◌&&◌, List, [], ◌∷◌, ◌++◌, map, ℕ, zero, suc, ◌+◌, ◌-◌, ◌<◌, ◌≤◌, T, eqb, ltb, length, get_or, replicate}
+use Rattle.std.specs.Prelude.{◌≡◌, Bool, List, [], ◌∷◌, ◌++◌, map, ℕ, zero, suc, ◌+◌, ◌-◌, ◌<◌, ◌≤◌, ltb, length, get_or, replicate}
 use Rattle.std.proofs.Math.Path.{refl, subst}
-use Rattle.std.proofs.Common.{sym, ap, ◌∙◌, ltb→lt, lt-ltb, le-ltb}
+use Rattle.std.proofs.Common.{sym, ap, ltb→lt, lt-ltb, le-ltb}
 use Rattle.std.proofs.Math.Bool.{true, false}
 use Rattle.std.proofs.Math.Logic.{⊎_elim}
 use native.Mathlib.Omega.{arith}
 use Rattle.std.proofs.Math.Dec.{leb-suc-suc}
 use Rattle.std.proofs.Math.ListN.{length-replicate, length-map}
-use Rattle.rules.specs.Text.{pick, index_of, is_in}
-use Rattle.rules.specs.Outcome.{Out, ok, refuse, ◌>>=◌, at, need, need_at, nth}
+use Rattle.rules.specs.Text.{pick, index_of}
+use Rattle.rules.specs.Outcome.{ok, ◌>>=◌, at, need, need_at, nth}
 use Rattle.rules.specs.Primitives.{primitive, inputs_of, primitive_names}
-use Rattle.rules.specs.Syntax.{Name, Decl, Block, Spelled, Callee, gate, block}
-use Rattle.rules.specs.Names.{Role, a-wire, is_wire, role_of}
+use Rattle.rules.specs.Syntax.{Name, Decl, Block, Spelled}
+use Rattle.rules.specs.Names.{Role, a-wire, role_of}
 use Rattle.rules.specs.Resolve.{Wants, wanted_by, wanted_by_gate, called}
 use Rattle.rules.proofs.Laws.Outcomes.{ok-inj, inv, at_ok}
 use Rattle.rules.proofs.Laws.Scoped.{pick-or}
-use Rattle.tape.specs.Layout.{head_in}
 use Rattle.tape.specs.Resolved.{callee_number}
 use Rattle.sweep.specs.declared.Heading.{Heading}
 use Rattle.sweep.specs.Spelling.{place_of, letters_of}
-use Rattle.sweep.specs.Sweep.{callee_in, heading_at, heading_of, gate_heading, after}
-use Rattle.sweep.specs.Laws.Arguments.{Wanted}
+use Rattle.sweep.specs.Sweep.{callee_in, heading_at, heading_of, after}
+use Rattle.sweep.proofs.Laws.Arguments.{Wanted}
 
 -- a heading with these counts, whose ports begin at v
 abbrev pub counted : ℕ → ℕ → ℕ → ℕ → Heading

@@ -1,29 +1,29 @@
 -- The sweep over the words of declared names and their types is the rule for them. Assumes nothing.
-use Rattle.std.specs.Prelude.{◌≡◌, Bool, not, ◌&&◌, ◌||◌, get_or, set, take}
+use Rattle.std.specs.Prelude.{◌≡◌, Bool, ◌||◌, take}
 use Rattle.std.proofs.Math.Path.{refl, sym, ap}
-use Rattle.std.proofs.Common.{◌∙◌, subst, add-one, take-suc-set, get_or-append-add}
+use Rattle.std.proofs.Common.{◌∙◌, add-one, take-suc-set, get_or-append-add}
 use Rattle.std.proofs.Math.Bool.{true, false}
 use mathlib.Core.List.{List, [], ◌∷◌, ◌++◌, map, append_assoc, append-nil}
-use Prim.Native.Nat.{ℕ, zero, suc, ◌+◌, ◌*◌, ◌-◌, ◌<◌, ◌≤◌, min}
+use Prim.Native.Nat.{ℕ, suc, ◌+◌, ◌<◌, ◌≤◌, min}
 use native.Mathlib.Omega.{arith}
 use Rattle.std.proofs.Math.Dec.{eqb, ltb}
 use Rattle.std.proofs.Math.ListN.{length, length-append, length-set, length-map, get_or-append}
-use borrow.Author.Tests.{ne_eqb, lt-ltb, le-ltb, ltb-true, ltb-false}
-use Rattle.rules.specs.Text.{pick, index_of, is_in}
+use borrow.Author.Tests.{ne_eqb, lt-ltb, ltb-true, ltb-false}
+use Rattle.rules.specs.Text.{pick, index_of}
 use Rattle.rules.specs.Outcome.{Out, ok, refuse, ◌>>=◌, at, need, need_at}
 use Rattle.rules.specs.Syntax.{Name, Exp, number, name, neg, group, both, Sort, wire, vector, num, Decl}
 use Rattle.rules.specs.Names.{Role, a-generic, a-wire, a-vector, an-index, role_of, Entry, Scope, spellings, generic, declared, find, role_at, once, stands, expression}
 use Rattle.rules.specs.Resolve.{generics, sort, declarations}
 use Rattle.rules.proofs.Laws.Carried.{map-append}
-use Rattle.rules.proofs.Laws.Spelt.{SpeltName, SpeltCall, All, AllExp, AllSort, AllDecl}
-use Rattle.tape.specs.Layout.{pack, kind_of, head_in, GENERIC, name_w, kind-of, head-of}
+use Rattle.rules.proofs.Laws.Spelt.{SpeltName, SpeltCall, All, AllSort, AllDecl}
+use Rattle.tape.specs.Layout.{pack, GENERIC, name_w, kind-of, head-of}
 use Rattle.tape.specs.Encoding.{list_w, exp_w, sort_w, decl_w, generic_w}
 use Rattle.tape.specs.Resolved.{slot_w}
-use Rattle.sweep.specs.Spelling.{place_of, letters_of, name_of, role_in, entry_of, scope_in}
-use Rattle.sweep.specs.Sweep.{State, declared_at, declare_step, declares, after, onto, turn, sweep}
-use Rattle.sweep.specs.Laws.Steps.{in-first, in-second}
-use Rattle.sweep.specs.Laws.Turns.{turn-declared, sweep-on, sweep-no, onto-none}
-use Rattle.sweep.specs.Laws.Expressions.{emit, onto-onto, sweep-emit, name-fits, name-place, name-letters, name-itself, Clear, exp-swept}
+use Rattle.sweep.specs.Spelling.{role_in, entry_of, scope_in}
+use Rattle.sweep.specs.Sweep.{State, declared_at, declare_step, declares, after, onto, sweep}
+use Rattle.sweep.proofs.Laws.Steps.{in-first, in-second}
+use Rattle.sweep.proofs.Laws.Turns.{turn-declared, onto-none}
+use Rattle.sweep.proofs.Laws.Expressions.{emit, onto-onto, sweep-emit, name-fits, name-letters, name-itself, Clear, exp-swept}
 
 -- ---- a vector's bounds do not see the vector
 

@@ -1,9 +1,9 @@
 -- The sweep over the words of a call's generics and arguments is the rule for them. Assumes nothing.
-use Rattle.std.specs.Prelude.{◌≡◌, Bool, true, false, not, ◌&&◌, ◌||◌, eqb, ltb, get_or, take, drop}
+use Rattle.std.specs.Prelude.{◌≡◌, Bool, true, false, ◌||◌, eqb, get_or}
 use Rattle.std.proofs.Math.Path.{refl, ap}
-use Rattle.std.proofs.Common.{sym, ◌∙◌, subst, eq-eqb, ne_eqb}
+use Rattle.std.proofs.Common.{sym, ◌∙◌}
 use mathlib.Core.List.{List, [], ◌∷◌, ◌++◌, append_assoc}
-use Prim.Native.Nat.{ℕ, zero, suc, ◌+◌, ◌-◌, ◌<◌, ◌≤◌, min}
+use Prim.Native.Nat.{ℕ, zero, suc, ◌+◌, ◌<◌, ◌≤◌, min}
 use native.Mathlib.Omega.{arith}
 use Rattle.std.proofs.Math.ListN.{length, length-append}
 use Rattle.rules.specs.Text.{pick}
@@ -11,13 +11,13 @@ use Rattle.rules.specs.Outcome.{Out, ok, refuse, ◌>>=◌, at, need, need_at}
 use Rattle.rules.specs.Syntax.{Name, Exp, Arg, whole, part}
 use Rattle.rules.specs.Names.{Role, is_wire, is_vector, Scope, find, role_at, expression, expressions, argument, arguments}
 use Rattle.rules.proofs.Laws.Spelt.{SpeltName, SpeltCall, All, AllExp, AllArg}
-use Rattle.tape.specs.Layout.{pack, kind_of, head_in, value_of, name_w, kind-of, value-of, head-of}
+use Rattle.tape.specs.Layout.{pack, head_in, name_w, kind-of, head-of}
 use Rattle.tape.specs.Encoding.{list_w, exp_w, arg_w}
 use Rattle.tape.specs.Resolved.{slot_w}
-use Rattle.sweep.specs.Spelling.{place_of, letters_of, name_of, valued, scope_in}
-use Rattle.sweep.specs.Sweep.{State, declared_at, argument_step, sort_fits, shape_fits, after, onto, argued, turn, sweep}
-use Rattle.sweep.specs.Laws.Turns.{turn-argument, onto-none}
-use Rattle.sweep.specs.Laws.Expressions.{emit, emit-after, emit-both, bind-after, sweep-emit, name-fits, name-place, name-itself, valued-pack, Clear, exp-swept}
+use Rattle.sweep.specs.Spelling.{place_of, name_of, valued, scope_in}
+use Rattle.sweep.specs.Sweep.{State, declared_at, argument_step, sort_fits, shape_fits, after, argued, turn, sweep}
+use Rattle.sweep.proofs.Laws.Turns.{turn-argument, onto-none}
+use Rattle.sweep.proofs.Laws.Expressions.{emit, emit-after, emit-both, sweep-emit, name-fits, name-place, name-itself, valued-pack, Clear, exp-swept}
 
 -- the state whose next argument is for the port at v
 abbrev pub moved : State → ℕ → State

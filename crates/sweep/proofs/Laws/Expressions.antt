@@ -1,23 +1,23 @@
 -- The sweep over the words of expressions is the rule for expressions. Assumes nothing.
-use Rattle.std.specs.Prelude.{◌≡◌, Bool, not, ◌&&◌, ◌||◌, List, [], ◌∷◌, ◌++◌, eqb, ltb, get_or, take, drop}
+use Rattle.std.specs.Prelude.{◌≡◌, Bool, List, [], ◌∷◌, ◌++◌, eqb, ltb, get_or}
 use Rattle.std.proofs.Math.Path.{refl, ap}
-use Rattle.std.proofs.Common.{sym, ◌∙◌, subst, append_assoc, eq-eqb, ne_eqb, eqb-true}
+use Rattle.std.proofs.Common.{sym, ◌∙◌, append_assoc, eqb-true}
 use Rattle.std.proofs.Math.Bool.{true, false}
-use Prim.Native.Nat.{ℕ, zero, suc, ◌+◌, ◌*◌, ◌-◌, ◌/◌, ◌%◌, ◌<◌, ◌≤◌}
+use Prim.Native.Nat.{ℕ, suc, ◌+◌, ◌-◌, ◌/◌, ◌%◌, ◌<◌, ◌≤◌}
 use native.Mathlib.Omega.{arith}
 use Rattle.std.proofs.Math.ListN.{length, length-append}
 use Rattle.rules.specs.Text.{pick}
 use Rattle.rules.specs.Outcome.{Out, ok, refuse, ◌>>=◌, at, need, need_at}
 use Rattle.rules.specs.Syntax.{Name, Op, plus, minus, times, Exp, number, name, neg, group, both}
-use Rattle.rules.specs.Names.{Role, a-generic, a-wire, a-vector, an-index, Scope, find, role_at, among, stands, expression, expressions}
-use Rattle.rules.proofs.Laws.Outcomes.{no_ok, ok-inj, inv, inv_at}
-use Rattle.rules.proofs.Laws.Spelt.{SpeltName, SpeltCall, All, AllExp}
-use Rattle.tape.specs.Layout.{pack, kind_of, head_in, value_of, NUMBER, NAME, BRACKET, head_of, flip, name_w, kind-of, value-of, head-of}
-use Rattle.tape.specs.Encoding.{list_w, exp_w}
+use Rattle.rules.specs.Names.{Role, a-generic, a-wire, a-vector, an-index, Scope, find, role_at, among, stands, expression}
+use Rattle.rules.proofs.Laws.Outcomes.{ok-inj, inv, inv_at}
+use Rattle.rules.proofs.Laws.Spelt.{SpeltName, SpeltCall, AllExp}
+use Rattle.tape.specs.Layout.{pack, value_of, NUMBER, NAME, BRACKET, head_of, flip, name_w, kind-of, value-of}
+use Rattle.tape.specs.Encoding.{exp_w}
 use Rattle.tape.specs.Resolved.{slot_w}
 use Rattle.sweep.specs.Spelling.{place_of, letters_of, name_of, valued, scope_in}
 use Rattle.sweep.specs.Sweep.{State, declared_at, name_step, standing, after, onto, turn, sweep}
-use Rattle.sweep.specs.Laws.Turns.{turn-name, turn-other, sweep-on, sweep-no, onto-none}
+use Rattle.sweep.proofs.Laws.Turns.{turn-name, turn-other, sweep-on, sweep-no}
 
 -- ---- outcomes and the words after them
 

@@ -1,9 +1,9 @@
 -- Laws of the sweep: a word by its kind, and one word after another. Assumes nothing.
-use Rattle.std.specs.Prelude.{◌≡◌, refl, Bool, true, false, not, ◌&&◌, ◌||◌, List, [], ◌∷◌, ◌++◌, ℕ, zero, suc, ◌+◌, ◌-◌, ◌<◌, ◌≤◌, eqb, ltb, length, get_or, set, take, drop}
-use Rattle.std.proofs.Common.{sym, ◌∙◌, subst, append-nil, add-one, arith, length-set, length-take, take-suc-set, drop-set-lt, get_or-drop, drop-drop, drop-cons}
+use Rattle.std.specs.Prelude.{◌≡◌, refl, Bool, true, false, ◌||◌, List, [], ◌∷◌, ◌++◌, ℕ, zero, suc, ◌+◌, ◌-◌, ◌<◌, ◌≤◌, eqb, length, get_or, set, take, drop}
+use Rattle.std.proofs.Common.{sym, ◌∙◌, subst, append-nil, add-one, arith, take-suc-set, drop-set-lt, get_or-drop, drop-drop}
 use Rattle.std.proofs.Math.Path.{ap}
-use Rattle.std.proofs.Math.Seq.{append_snoc, take-length, take-nil}
-use borrow.Author.Tests.{eq-eqb, ne_eqb, lt-ltb, le-ltb}
+use Rattle.std.proofs.Math.Seq.{append_snoc, take-nil}
+use borrow.Author.Tests.{ne_eqb, lt-ltb, le-ltb}
 use Rattle.rules.specs.Text.{pick}
 use Rattle.rules.specs.Outcome.{Out, ok, refuse, ◌>>=◌}
 use Rattle.tape.specs.Layout.{kind_of, value_of}
@@ -11,7 +11,7 @@ use Rattle.sweep.specs.declared.Turn.{Turn}
 use Rattle.sweep.specs.declared.Turn.TheVariants.{Word, Halt}
 use Rattle.sweep.specs.Spelling.{valued}
 use Rattle.sweep.specs.Sweep.{State, declared_at, name_step, index_step, argument_step, call_step, block_step, declare_step, heading_of, after, called, argued, indexed, entered, begun, declares, turn, sweep, onto, Says}
-use Rattle.sweep.specs.Laws.Counts.{opened, none_left}
+use Rattle.sweep.proofs.Laws.Counts.{opened, none_left}
 
 pub says-as : {o u : Out (ℕ × State)} (t : Turn) (S : State) → o ≡ u → Says u t S → Says o t S
 says-as t S e h = subst (λ o. Says o t S) (sym e) h

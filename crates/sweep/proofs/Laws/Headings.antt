@@ -1,31 +1,21 @@
 -- The headings gathered from the tape of a program are those of its blocks. Assumes nothing.
-use Rattle.std.specs.Prelude.{◌≡◌, Bool, true, false, not, ◌&&◌, eqb, ltb, get_or, set, take, drop, replicate}
+use Rattle.std.specs.Prelude.{◌≡◌, Bool, true, false, ◌&&◌, eqb, ltb}
 use Rattle.std.proofs.Math.Path.{refl, sym, ap}
-use Rattle.std.proofs.Common.{◌∙◌, subst, add-one, length-set, get_or-set_same, get_or-set_other, get_or-append-add, get_or-drop, drop-cons, drop-drop}
-use mathlib.Core.List.{List, [], ◌∷◌, ◌++◌, map, append_assoc, append-nil}
-use Prim.Native.Nat.{ℕ, zero, suc, ◌+◌, ◌*◌, ◌-◌, ◌<◌, ◌≤◌, min}
-use Rattle.std.proofs.Math.Decide.{dec_lt}
+use Rattle.std.proofs.Common.{◌∙◌, subst}
+use mathlib.Core.List.{List, [], ◌∷◌, ◌++◌, map, append_assoc}
+use Prim.Native.Nat.{ℕ, suc, ◌+◌, ◌<◌, ◌≤◌}
 use native.Mathlib.Omega.{arith}
-use Rattle.std.proofs.Math.ListN.{length, length-append, get_or-eq_default, get_or-append}
-use Rattle.std.proofs.lemmas.List.{length-map, length-replicate, get_or-replicate}
-use borrow.Author.Tests.{eq-eqb, ne_eqb, lt-ltb, le-ltb}
+use Rattle.std.proofs.Math.ListN.{length, length-append}
+use borrow.Author.Tests.{ne_eqb, lt-ltb, le-ltb}
 use Rattle.rules.specs.Text.{pick}
-use Rattle.rules.specs.Outcome.{Out, ok, refuse, nth}
 use Rattle.rules.specs.Syntax.{Name, Exp, Sort, wire, vector, num, Arg, whole, part, Stmts, end, call, loop, Decl, Block, Spelled}
-use Rattle.rules.specs.Names.{Role, a-wire, a-vector, is_wire, role_of}
-use Rattle.rules.proofs.Laws.Outcomes.{no_ok, ok-inj}
 use Rattle.rules.proofs.Laws.Spelt.{SpeltName, SpeltCall, SpeltBlock, All, AllExp, AllSort, AllArg, AllStmts, AllDecl}
-use Rattle.tape.specs.Layout.{pack, kind_of, head_in, CALL, INPUT, OUTPUT, LOOP, INDEX, BODY, BLOCK, GENERIC, IN, OUT, VAR, name_w, kind-of, head-of}
-use Rattle.tape.specs.Encoding.{list_w, exp_w, arg_w, stmts_w, sort_w, decl_w, generic_w, block_w, callee_w, tape_of}
-use Rattle.tape.specs.Written.{put}
-use Rattle.sweep.specs.declared.Heading.{Heading}
-use Rattle.sweep.specs.Spelling.{letters_of}
-use Rattle.sweep.specs.Sweep.{heading, headings, titles, firsts, leading, heading_at, Rows}
-use Rattle.sweep.specs.Laws.Expressions.{name-fits, name-letters}
-use Rattle.sweep.specs.Laws.Given.{Low, exp-low}
-use Rattle.sweep.specs.Laws.Arguments.{Wanted}
-use Rattle.sweep.specs.Laws.Callees.{Knows, Heads, counted, roles}
-use Rattle.sweep.specs.Laws.Declarations.{head_of_sort, head-of-sort}
+use Rattle.tape.specs.Layout.{pack, kind_of, CALL, INPUT, OUTPUT, LOOP, INDEX, BODY, BLOCK, GENERIC, IN, OUT, VAR, name_w, kind-of}
+use Rattle.tape.specs.Encoding.{list_w, exp_w, arg_w, stmts_w, sort_w, decl_w, generic_w, block_w, callee_w}
+use Rattle.sweep.specs.Sweep.{heading, headings, titles, firsts}
+use Rattle.sweep.proofs.Laws.Expressions.{name-fits}
+use Rattle.sweep.proofs.Laws.Given.{Low, exp-low}
+use Rattle.sweep.proofs.Laws.Declarations.{head_of_sort, head-of-sort}
 
 -- ---- words that are no headings
 

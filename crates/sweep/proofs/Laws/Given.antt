@@ -7,14 +7,14 @@ use Prim.Native.Nat.{ℕ, zero, suc, ◌+◌, ◌-◌, ◌%◌, ◌<◌, ◌≤�
 use Rattle.std.proofs.Math.Nat.{zero-add}
 use native.Mathlib.Omega.{arith}
 use Rattle.std.proofs.Math.ListN.{length, length-append}
-use borrow.Author.Tests.{eq-eqb, ne_eqb, lt-ltb, le-ltb, eqb-true, eqb-false}
+use borrow.Author.Tests.{eq-eqb, ne_eqb, lt-ltb, le-ltb, eqb-false}
 use Rattle.rules.specs.Text.{pick}
 use Rattle.rules.specs.Syntax.{Name, Op, plus, minus, times, Exp, number, name, neg, group, both, Arg, whole, part}
 use Rattle.rules.proofs.Laws.Spelt.{SpeltName, SpeltCall, All, AllExp, AllArg}
-use Rattle.tape.specs.Layout.{pack, kind_of, head_in, value_of, NUMBER, NAME, BRACKET, head_of, flip, name_w, kind-of, value-of, head-of}
+use Rattle.tape.specs.Layout.{kind_of, NUMBER, NAME, BRACKET, head_of, flip, name_w, kind-of, value-of, head-of}
 use Rattle.tape.specs.Encoding.{list_w, exp_w, arg_w}
 use Rattle.sweep.specs.Sweep.{generics_given, in_call, given}
-use Rattle.sweep.specs.Laws.Expressions.{name-fits, flip-small, head_small}
+use Rattle.sweep.proofs.Laws.Expressions.{name-fits, flip-small, head_small}
 
 -- words of expressions
 unfoldable pub Low : List ℕ → Type 0

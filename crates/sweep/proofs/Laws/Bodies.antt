@@ -1,9 +1,9 @@
 -- The sweep over the words of statements is the rule for statements. Assumes nothing.
-use Rattle.std.specs.Prelude.{◌≡◌, Bool, not, ◌&&◌, ◌||◌, List, [], ◌∷◌, ◌++◌, get_or}
+use Rattle.std.specs.Prelude.{◌≡◌, Bool, ◌&&◌, ◌||◌, List, [], ◌∷◌, ◌++◌, get_or}
 use Rattle.std.proofs.Math.Path.{refl, ap}
-use Rattle.std.proofs.Common.{sym, ◌∙◌, subst, append_assoc, length-append, get_or-set_same, get_or-set_other, eq-eqb, ne_eqb, lt-ltb, le-ltb, ltb-true, ltb-false, eqb-true}
+use Rattle.std.proofs.Common.{sym, ◌∙◌, subst, append_assoc, length-append, get_or-set_same, get_or-set_other, lt-ltb, le-ltb, eqb-true}
 use Rattle.std.proofs.Math.Bool.{true, false}
-use Prim.Native.Nat.{ℕ, zero, suc, ◌+◌, ◌*◌, ◌-◌, ◌<◌, ◌≤◌, max}
+use Prim.Native.Nat.{ℕ, suc, ◌+◌, ◌*◌, ◌<◌, ◌≤◌, max}
 use Rattle.std.proofs.Math.Decide.{dec_lt}
 use native.Mathlib.Omega.{arith}
 use Rattle.std.proofs.Math.Dec.{T, eqb, ltb, eqb→eq}
@@ -16,19 +16,19 @@ use Rattle.rules.specs.Syntax.{Name, Exp, Arg, whole, part, Stmts, end, call, lo
 use Rattle.rules.specs.Names.{Role, is_index, Scope, find, role_at, among, expression, expressions, argument, arguments}
 use Rattle.rules.specs.Resolve.{Wants, called, statements}
 use Rattle.rules.proofs.Laws.Outcomes.{no_ok, ok-inj, inv, inv_at, both_yes}
-use Rattle.rules.proofs.Laws.Spelt.{SpeltName, SpeltCall, All, AllExp, AllArg, AllStmts}
+use Rattle.rules.proofs.Laws.Spelt.{SpeltName, SpeltCall, AllExp, AllStmts}
 use Rattle.rules.proofs.Laws.Scoped.{found}
-use Rattle.tape.specs.Layout.{pack, kind_of, value_of, CALL, INPUT, OUTPUT, LOOP, INDEX, BODY, name_w, kind-of, value-of}
+use Rattle.tape.specs.Layout.{pack, CALL, INPUT, OUTPUT, LOOP, INDEX, BODY, name_w, kind-of, value-of}
 use Rattle.tape.specs.Encoding.{list_w, exp_w, arg_w, stmts_w, callee_w}
 use Rattle.tape.specs.Resolved.{slot_w, callee_number, meant_w}
-use Rattle.sweep.specs.Spelling.{place_of, letters_of, name_of, valued, entry_of, scope_in}
+use Rattle.sweep.specs.Spelling.{place_of, name_of, valued, entry_of, scope_in}
 use Rattle.sweep.specs.Sweep as sw
 use Rattle.sweep.specs.Sweep.{State, declared_at, call_step, callee_in, counts_fit, heading_of, index_step, after, onto, indexed, entered, generics_given, given, in_call, turn, sweep}
-use Rattle.sweep.specs.Laws.Turns.{turn-call, turn-index, turn_body, turn-other, sweep-on, sweep-no, onto-none}
-use Rattle.sweep.specs.Laws.Expressions.{emit, onto-onto, sweep-plain, name-fits, name-place, name-letters, name-itself, valued-pack, Clear, exp-swept, exp-length}
-use Rattle.sweep.specs.Laws.Arguments.{moved, Wanted, exps-swept, args-swept}
-use Rattle.sweep.specs.Laws.Given.{Ends, ends-given, ends-generics, exps-generics, exps-given, args-other, args-given, args-generics}
-use Rattle.sweep.specs.Laws.Callees.{Knows, Right, counted, callee-as, wants-right}
+use Rattle.sweep.proofs.Laws.Turns.{turn-call, turn-index, turn_body, turn-other, sweep-on, sweep-no, onto-none}
+use Rattle.sweep.proofs.Laws.Expressions.{emit, onto-onto, sweep-plain, name-fits, name-place, name-letters, name-itself, valued-pack, Clear, exp-swept, exp-length}
+use Rattle.sweep.proofs.Laws.Arguments.{moved, Wanted, exps-swept, args-swept}
+use Rattle.sweep.proofs.Laws.Given.{Ends, ends-given, ends-generics, exps-generics, exps-given, args-other, args-given, args-generics}
+use Rattle.sweep.proofs.Laws.Callees.{Knows, Right, callee-as, wants-right}
 
 -- ---- the ends of loops
 

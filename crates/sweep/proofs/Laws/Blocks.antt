@@ -1,32 +1,32 @@
 -- The sweep over the words of blocks is the rule for blocks. Assumes nothing.
-use Rattle.std.specs.Prelude.{◌≡◌, Bool, true, false, not, ◌&&◌, ◌||◌, eqb, ltb, get_or, set, take}
+use Rattle.std.specs.Prelude.{◌≡◌, not, ltb, get_or, set, take}
 use Rattle.std.proofs.Math.Path.{refl, sym, ap}
-use Rattle.std.proofs.Common.{◌∙◌, subst, length-set, length-take, take_at, ne_eqb, lt-ltb, le-ltb}
+use Rattle.std.proofs.Common.{◌∙◌, length-take, take_at}
 use mathlib.Core.List.{List, [], ◌∷◌, ◌++◌, map, append_assoc, append-nil}
-use Prim.Native.Nat.{ℕ, zero, suc, ◌+◌, ◌*◌, ◌-◌, ◌<◌, ◌≤◌, min, max}
+use Prim.Native.Nat.{ℕ, zero, suc, ◌+◌, ◌<◌, ◌≤◌, min, max}
 use native.Mathlib.Omega.{arith}
 use Rattle.std.proofs.Math.ListN.{length, length-append}
 use Rattle.std.proofs.lemmas.List.{length-map}
 use Rattle.std.proofs.Math.Seq.{set_out}
-use Rattle.rules.specs.Text.{pick, index_of, is_in}
-use Rattle.rules.specs.Outcome.{Out, ok, refuse, ◌>>=◌, at, need, need_at}
+use Rattle.rules.specs.Text.{pick, is_in}
+use Rattle.rules.specs.Outcome.{Out, ok, refuse, ◌>>=◌, need_at}
 use Rattle.rules.specs.Primitives.{primitive_names}
 use Rattle.rules.specs.Syntax.{Name, Decl, Stmts, Block, Spelled, Callee}
-use Rattle.rules.specs.Names.{Scope, generic, declared, scope_of}
+use Rattle.rules.specs.Names.{generic, declared, scope_of}
 use Rattle.rules.specs.Resolve.{statements, generics, declarations, resolve_block, resolve_blocks}
 use Rattle.rules.proofs.Laws.Carried.{map-append}
-use Rattle.rules.proofs.Laws.Spelt.{SpeltName, SpeltCall, SpeltBlock, All}
-use Rattle.tape.specs.Layout.{pack, kind_of, BLOCK, BODY, IN, OUT, VAR, name_w, kind-of, value-of}
-use Rattle.tape.specs.Encoding.{list_w, stmts_w, decl_w, generic_w, block_w, blocks_w, callee_w}
+use Rattle.rules.proofs.Laws.Spelt.{SpeltBlock, All}
+use Rattle.tape.specs.Layout.{pack, BLOCK, BODY, IN, OUT, VAR, name_w, kind-of, value-of}
+use Rattle.tape.specs.Encoding.{list_w, stmts_w, decl_w, generic_w, block_w, callee_w}
 use Rattle.tape.specs.Resolved.{slot_w, meant_w}
-use Rattle.sweep.specs.Spelling.{place_of, letters_of, scope_in}
-use Rattle.sweep.specs.Sweep.{State, declared_at, block_step, begun, entered, after, onto, in_call, turn, sweep}
-use Rattle.sweep.specs.Laws.Turns.{turn-block, turn_body, sweep-on, onto-none}
-use Rattle.sweep.specs.Laws.Expressions.{emit, onto-onto, sweep-emit, sweep-plain, name-fits, name-place, name-letters, Clear}
-use Rattle.sweep.specs.Laws.Given.{Ends}
-use Rattle.sweep.specs.Laws.Callees.{Knows}
-use Rattle.sweep.specs.Laws.Bodies.{Went, stmts-swept, stmts-length}
-use Rattle.sweep.specs.Laws.Declarations.{Opened, generics-opened, decls-opened}
+use Rattle.sweep.specs.Spelling.{letters_of, scope_in}
+use Rattle.sweep.specs.Sweep.{State, declared_at, block_step, begun, entered, after, onto, in_call, sweep}
+use Rattle.sweep.proofs.Laws.Turns.{turn-block, turn_body}
+use Rattle.sweep.proofs.Laws.Expressions.{emit, onto-onto, sweep-emit, sweep-plain, name-fits, name-place, name-letters, Clear}
+use Rattle.sweep.proofs.Laws.Given.{Ends}
+use Rattle.sweep.proofs.Laws.Callees.{Knows}
+use Rattle.sweep.proofs.Laws.Bodies.{Went, stmts-swept, stmts-length}
+use Rattle.sweep.proofs.Laws.Declarations.{Opened, generics-opened, decls-opened}
 
 emit-block : (w y : ℕ) (gw : List ℕ) (ei eo ev : List (Decl ℕ) → List ℕ) (eb : Stmts ℕ Callee → List ℕ) (ex : Block ℕ Callee → List ℕ) (f : List (Decl ℕ) → List (Decl ℕ) → List (Decl ℕ) → Stmts ℕ Callee → Block ℕ Callee)
     (on og : Out (Unit {0})) (oi oo ov : Out (List (Decl ℕ))) (ob : Out (Stmts ℕ Callee)) (R : Out (List ℕ))

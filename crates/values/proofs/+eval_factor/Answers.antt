@@ -1,0 +1,68 @@
+use mathlib.Core.Path.{sym, ◌∙◌}
+use native.Mathlib.Omega.{arith}
+use borrow.Author.Rules.{rules}
+use Rattle.values.specs.Taking.{begin, factor-next, factor-some, turn, onward, ending, one_word, inside, bracket-value}
+use Rattle.values.proofs.+eval_factor.Goals as goal
+
+pub eval-loop-sum-init : goal.eval-loop-sum-init
+eval-loop-sum-init t c e h = rw c.empty-sum.ensures (begin h)
+
+pub eval-after-next-requires : goal.eval-after-next-requires
+eval-after-next-requires t c =
+    let h = c.requires.here in
+    let u = turn h (c.loop-sum.invariant _ h) in
+    (u.room, u.short)
+
+pub eval-factor-v-requires : goal.eval-factor-v-requires
+eval-factor-v-requires t c =
+    let h = c.requires.here in
+    let l = c.loop-sum.invariant _ h in
+    let u = turn h l in
+    (omega (arith, u.from, u.forward, u.within, c.after-next.ensures), record { factor = l.first; here = rw c.after-next.ensures (factor-next h l) })
+
+pub eval-offset_bounds-tape-i : goal.eval-offset_bounds-tape-i
+eval-offset_bounds-tape-i t c = let h = (turn c.requires.here (c.loop-sum.invariant _ c.requires.here)).short in search rules
+
+pub eval-bounds-tape-i : goal.eval-bounds-tape-i
+eval-bounds-tape-i t c = (turn c.requires.here (c.loop-sum.invariant _ c.requires.here)).room
+
+pub eval-goes_on-requires : goal.eval-goes_on-requires
+eval-goes_on-requires t c = c.requires.here.limit
+
+pub eval-returns-then-not-goes_on : goal.eval-returns-then-not-goes_on
+eval-returns-then-not-goes_on t c e h =
+    let l = c.loop-sum.invariant e h in
+    ending h l _ _ _ _ _ c.take-sum.ensures c.head_of-head.ensures (c.factor-v.ensures l.first (rw c.after-next.ensures (factor-next h l))) c.after-next.ensures (sym c.goes_on.ensures ∙ c.if-not-goes_on.true) c.answer.ensures
+
+pub eval-loop-sum-smaller : goal.eval-loop-sum-smaller
+eval-loop-sum-smaller t c =
+    let u = turn c.requires.here (c.loop-sum.invariant _ c.requires.here) in
+    omega (arith, u.forward, u.within, c.after-next.ensures)
+
+pub eval-loop-sum-preserved : goal.eval-loop-sum-preserved
+eval-loop-sum-preserved t c e h =
+    let l = c.loop-sum.invariant e h in
+    onward h l _ _ _ _ c.take-sum.ensures c.head_of-head.ensures (c.factor-v.ensures l.first (rw c.after-next.ensures (factor-next h l))) c.after-next.ensures (sym c.goes_on.ensures ∙ c.if-not-goes_on.false)
+
+pub factor-bounds-tape-i : goal.factor-bounds-tape-i
+factor-bounds-tape-i t c = let k = c.requires.here in omega (arith, k.limit, factor-some k)
+
+pub factor-overflow_add-i : goal.factor-overflow_add-i
+factor-overflow_add-i t c = let k = c.requires.here in omega (arith, k.short, factor-some k)
+
+pub factor-eval-v-requires : goal.factor-eval-v-requires
+factor-eval-v-requires t c =
+    let k = c.requires.here in
+    let b = inside _ _ _ _ _ k (sym c.kind_of.ensures ∙ c.if-kind_of-eq-BRACKET.true) in
+    (omega (arith, factor-some k), record { exp = b.exp; here = b.here })
+
+pub factor-returns-then-kind_of-eq-BRACKET : goal.factor-returns-then-kind_of-eq-BRACKET
+factor-returns-then-kind_of-eq-BRACKET t c f k =
+    let b = inside _ _ _ _ _ k (sym c.kind_of.ensures ∙ c.if-kind_of-eq-BRACKET.true) in
+    c.number_in.ensures ∙ bracket-value _ f.base b _ _ (c.eval-v.ensures b.exp b.here)
+
+pub factor-plain-requires : goal.factor-plain-requires
+factor-plain-requires t c = (one_word _ c.args.values.now _ _ _ _ c.requires.here (λ q. c.if-kind_of-eq-BRACKET.false (c.kind_of.ensures ∙ q))).slot
+
+pub factor-returns : goal.factor-returns
+factor-returns t c f k = c.plain.ensures ∙ (one_word _ _ _ _ _ _ k (λ q. c.if-kind_of-eq-BRACKET.false (c.kind_of.ensures ∙ q))).is
