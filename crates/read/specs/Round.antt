@@ -26,13 +26,17 @@ read_back {net} {len} {len'} {t} {t'} {text} {words} wf h h' w r =
 -- write (read t) = t: a text that is read is written again, byte for byte
 pub write-back : {text words text' : List ℕ} {len len' : ℕ} {t t' : Told} → WasRead text len t words → t.number ≡ 0 → 65536 ≤ len'
     → Wrote words len' t' text' → (t' ≡ done (length text)) × (text' ≡ text ++ zeros (len' - length text))
-write-back (short-netlist h) n h' w = absurd (omega (arith, n))
-write-back (no-netlist h x) n h' w = absurd (omega (arith, n))
-write-back {text} {words} {text'} {len} {len'} (was_read net h wf e) n h' w =
-    let v = records net ++ zeros (len - length (records net)) in
-    let (f, g) = wrote_one w (wrote h' (well-again net _ v wf refl)) in
-    let i : flat_text v ≡ text = text-again net _ v wf refl ∙ sym e in
-    (f ∙ ap (λ (l : List ℕ). done (length l)) i, g ∙ ap (λ (l : List ℕ). l ++ zeros (len' - length l)) i)
+write-back {text} {words} {text'} {len} {len'} {t} {t'} r n h' w = go r n w
+  where
+    go : {len : ℕ} {words : List ℕ} {t : Told} → WasRead text len t words → t.number ≡ 0 → Wrote words len' t' text'
+        → (t' ≡ done (length text)) × (text' ≡ text ++ zeros (len' - length text))
+    go (short-netlist h) n w = absurd (omega (arith, n))
+    go (no-netlist h x) n w = absurd (omega (arith, n))
+    go {len} (was_read net h wf e) n w =
+        let v = records net ++ zeros (len - length (records net)) in
+        let (f, g) = wrote_one w (wrote h' (well-again net _ v wf refl)) in
+        let i : flat_text v ≡ text = text-again net _ v wf refl ∙ sym e in
+        (f ∙ ap (λ (l : List ℕ). done (length l)) i, g ∙ ap (λ (l : List ℕ). l ++ zeros (len' - length l)) i)
 
 -- exactly what write gives is accepted
 pub accepts : {text words : List ℕ} {len : ℕ} {t : Told} → 5124 ≤ len → WasRead text len t words → (net : List ℕ) → WellFormed net → text ≡ flat_text net → t ≡ done 0

@@ -1,5 +1,4 @@
 use Rattle.read.specs.Ahead.{past_end}
-use borrow.Author.Rules.{rules}
 use mathlib.Core.Path.{refl}
 use native.Mathlib.Omega.{arith}
 use Rattle.read.proofs.after.Goals as goal

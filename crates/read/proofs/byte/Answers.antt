@@ -1,5 +1,4 @@
 use Rattle.read.specs.Ahead.{past_end}
-use borrow.Author.Rules.{rules}
 use Rattle.read.proofs.byte.Goals as goal
 
 pub returns : goal.returns

@@ -1,5 +1,4 @@
 use Rattle.read.specs.Body.{guessed}
-use borrow.Author.Rules.{rules}
 use Rattle.read.proofs.guess.Goals as goal
 
 pub returns : goal.returns

@@ -1,11 +1,6 @@
-use Prim.Native.Nat.{ℕ, ◌-◌, ◌≤◌, ◌<◌}
-use Rattle.compare.specs.Match.{Starts}
-use Rattle.compare.specs.Walk.{call_of}
 use Rattle.netlist.specs.Decides.{holds, fails}
 use Rattle.read.specs.Ahead.{call-one, last-kind}
-use Rattle.rules.specs.Text.{joined}
 use borrow.Author.Count.{below_more}
-use borrow.Author.Rules.{rules}
 use native.Mathlib.Omega.{arith}
 use Rattle.read.proofs.kind_at.Goals as goal
 

@@ -1,5 +1,4 @@
 use Rattle.write.specs.Fits.{name-most}
-use borrow.Author.Rules.{rules}
 use native.Mathlib.Omega.{arith}
 use Rattle.read.proofs.name_width.Goals as goal
 

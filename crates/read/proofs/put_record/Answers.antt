@@ -1,5 +1,4 @@
 use Rattle.read.specs.Body.{stored_at}
-use borrow.Author.Rules.{rules}
 use lib.ListN.{length-set}
 use native.Mathlib.Omega.{arith}
 use Rattle.read.proofs.put_record.Goals as goal

@@ -1,15 +1,6 @@
-use Prim.Native.Nat.{ℕ, ◌-◌, ◌≤◌}
-use Rattle.read.specs.Ahead.{Ahead}
-use Rattle.read.specs.Body.{Got, got-none, got-end, got-full, got-more}
-use Rattle.rules.specs.Flat.{gates_text}
-use Rattle.rules.specs.Netlist.{WellFormed, gates}
-use Rattle.rules.specs.Text.{bytes}
-use borrow.Author.Rules.{rules}
-use lib.ListN.{length}
-use mathlib.Core.List.{List, [], ◌∷◌}
-use mathlib.Core.Path.{◌≡◌, refl, sym, ◌∙◌}
+use Rattle.read.specs.Body.{got-none, got-end, got-full, got-more}
+use mathlib.Core.Path.{refl, sym, ◌∙◌}
 use native.Mathlib.Omega.{arith}
-use Rattle.read.proofs.read_gates.Invariants.{Far}
 use Rattle.read.proofs.read_gates.Goals as goal
 
 pub loop-i-init : goal.loop-i-init
@@ -31,14 +22,13 @@ pub skip-p-requires : goal.skip-p-requires
 skip-p-requires c = c.after-q.ensures.0
 
 pub loop-i-preserved : goal.loop-i-preserved
-loop-i-preserved c =
-    (
-      c.put_record.auto.0 ∙ c.loop-i.invariant.0,
-      c.skip-p.ensures.0,
-      omega arith,
-      λ w wf a.
-          got-more wf (c.loop-i.invariant.3 w wf a) (λ e. c.if-byte-eq69.false (c.byte.ensures ∙ e)) c.read_gate-f.ensures.gate_reads c.put_record.ensures c.after-q.ensures c.skip-p.ensures.1,
-    )
+loop-i-preserved c = (
+  c.put_record.auto.net ∙ c.loop-i.invariant.0,
+  c.skip-p.ensures.0,
+  omega arith,
+  λ w wf a.
+      got-more wf (c.loop-i.invariant.3 w wf a) (λ e. c.if-byte-eq69.false (c.byte.ensures ∙ e)) c.read_gate-f.ensures.gate_reads c.put_record.ensures c.after-q.ensures c.skip-p.ensures.1,
+)
 
 pub shape_of-net : goal.shape_of-net
 shape_of-net c = c.loop-i.invariant.0

@@ -1,14 +1,12 @@
 use Prim.Native.Nat.{ℕ, ◌-◌, ◌≤◌}
 use Rattle.read.specs.Ahead.{Ahead}
-use Rattle.read.specs.Body.{Got, got-none, got-end, got-full, got-more}
+use Rattle.read.specs.Body.{Got}
 use Rattle.rules.specs.Flat.{gates_text}
 use Rattle.rules.specs.Netlist.{WellFormed, gates}
 use Rattle.rules.specs.Text.{bytes}
-use borrow.Author.Rules.{rules}
 use lib.ListN.{length}
 use mathlib.Core.List.{List, [], ◌∷◌}
-use mathlib.Core.Path.{◌≡◌, refl, sym, ◌∙◌}
-use native.Mathlib.Omega.{arith}
+use mathlib.Core.Path.{◌≡◌}
 use Rattle.read.proofs.read_gates.Given as goal
 
 -- the first i gates are read

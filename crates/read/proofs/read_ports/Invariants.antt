@@ -1,12 +1,8 @@
 use Prim.Native.Nat.{ℕ, ◌+◌, ◌-◌, ◌≤◌}
 use Rattle.read.specs.Ahead.{Ahead}
-use Rattle.read.specs.Loops.{ports-start, ports-stop, ports-turn}
 use Rattle.rules.specs.Flat.{ports_text}
-use borrow.Author.Rules.{rules}
 use lib.ListN.{length}
 use mathlib.Core.List.{List, ◌∷◌}
-use mathlib.Core.Path.{sym, ◌∙◌}
-use native.Mathlib.Omega.{arith}
 use Rattle.read.proofs.read_ports.Given as goal
 
 -- the first k of the n ports are passed

@@ -1,13 +1,9 @@
 use Prim.Native.Nat.{ℕ, ◌+◌, ◌-◌, ◌≤◌}
 use Rattle.read.specs.Ahead.{Ahead}
-use Rattle.read.specs.Loops.{vars-start, vars-stop, vars-turn}
 use Rattle.rules.specs.Flat.{vars_text}
 use Rattle.rules.specs.Text.{bytes}
-use borrow.Author.Rules.{rules}
 use lib.ListN.{length}
 use mathlib.Core.List.{List, ◌∷◌}
-use mathlib.Core.Path.{sym, ◌∙◌}
-use native.Mathlib.Omega.{arith}
 use Rattle.read.proofs.read_vars.Given as goal
 
 -- the first k of the n lines are passed

@@ -1,5 +1,4 @@
 use Rattle.write.specs.Fits.{decimal-most}
-use borrow.Author.Rules.{rules}
 use native.Mathlib.Omega.{arith}
 use Rattle.read.proofs.width.Goals as goal
 
