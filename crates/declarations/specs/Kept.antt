@@ -1,6 +1,6 @@
 -- What the declarations of a block leave on the tape. Assumes nothing.
-use Rattle.std.specs.Prelude.{◌≡◌, ℕ, ◌+◌, ◌≤◌, ◌<◌, List, ◌++◌, length}
-use Rattle.rules.specs.Outcome.{Out, ok, refuse}
+use Rattle.std.specs.Prelude.{◌≡◌, ℕ, ◌+◌, ◌<◌, List, ◌++◌, length}
+use Rattle.rules.specs.Outcome.{ok, refuse}
 use Rattle.rules.specs.Syntax.{vector}
 use Rattle.rules.specs.Grammar.{Expr, vectored}
 use Rattle.tape.specs.Layout.{name_w}

@@ -1,12 +1,12 @@
 -- Laws of the declarations of a block. Assumes nothing.
-use Rattle.std.specs.Prelude.{◌≡◌, ℕ, ◌+◌, ◌≤◌, ◌<◌, true, false, List, [], ◌∷◌, length, set}
+use Rattle.std.specs.Prelude.{◌≡◌, ℕ, ◌+◌, ◌≤◌, ◌<◌, true, false, List, length, set}
 use Rattle.std.proofs.Math.Path.{refl}
-use Rattle.std.proofs.Common.{sym, ap, ◌∙◌, lt-ltb, le-ltb}
+use Rattle.std.proofs.Common.{◌∙◌, lt-ltb, le-ltb}
 use Rattle.rules.specs.Text.{pick}
 use Rattle.rules.specs.Outcome.{Out, ok, refuse}
 use Rattle.rules.specs.Words.{word_at}
-use Rattle.rules.specs.Syntax.{Name, wire, vector, num, Decl}
-use Rattle.rules.specs.Readers.{Reader, ◌>>=◌, give, spelling, after, mark, a_name, if_next}
+use Rattle.rules.specs.Syntax.{wire, vector, num}
+use Rattle.rules.specs.Readers.{give, spelling, after, mark, a_name, if_next}
 use Rattle.rules.specs.Grammar.{bounds, declared, vectored, a_type, port, local}
 use Rattle.tape.specs.Layout.{pack, GENERIC, spelt, name_w}
 use Rattle.tape.specs.Encoding.{sort_w, decl_w, generic_w}

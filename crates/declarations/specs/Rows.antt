@@ -1,6 +1,6 @@
 -- The lists of declarations, and their words. Assumes nothing.
-use Rattle.std.specs.Prelude.{◌≡◌, refl, ℕ, suc, ◌+◌, List, [], ◌∷◌, ◌++◌, length}
-use Rattle.std.proofs.Common.{sym, ap, ◌∙◌, arith}
+use Rattle.std.specs.Prelude.{◌≡◌, ℕ, suc, List, [], ◌∷◌}
+use Rattle.std.proofs.Common.{arith}
 use Rattle.rules.specs.Grammar.{declared, port, local}
 use Rattle.rules.proofs.Laws.Enough.{enough}
 use Rattle.tape.specs.Layout.{name_w}

@@ -1,25 +1,23 @@
 -- Laws of factors, by the word that each begins with. Assumes nothing.
-use Rattle.std.specs.Prelude.{◌≡◌, ℕ, zero, suc, ◌+◌, ◌-◌, ◌*◌, ◌≤◌, ◌<◌, List, [], ◌∷◌, ◌++◌, length, set, eqb}
+use Rattle.std.specs.Prelude.{◌≡◌, ℕ, zero, suc, ◌+◌, ◌-◌, ◌*◌, ◌≤◌, ◌<◌, List, length, set}
 use Rattle.std.proofs.Math.Path.{refl}
-use Rattle.std.proofs.Common.{sym, ap, ◌∙◌, sub-one, arith}
+use Rattle.std.proofs.Common.{◌∙◌, sub-one, arith}
 use borrow.Author.Tests.{eq-eqb, ne_eqb}
-use Rattle.rules.specs.declared.Word.{Word}
 use Rattle.rules.specs.declared.Word.TheVariants.{Bad, Name as Named, Number, Mark}
 use Rattle.rules.specs.Text.{pick}
-use Rattle.rules.specs.Outcome.{Out, ok, refuse, ◌>>=◌ as ◌and-then◌}
-use Rattle.rules.specs.Words.{word_at, key}
-use Rattle.rules.specs.Syntax.{Exp, number, name, neg, group}
+use Rattle.rules.specs.Outcome.{ok, refuse, ◌>>=◌ as ◌and-then◌}
+use Rattle.rules.specs.Words.{word_at}
+use Rattle.rules.specs.Syntax.{number, name, neg, group}
 use Rattle.rules.specs.Readers.{Reader, ◌>>=◌, give, refused, spelling, mark}
 use Rattle.rules.specs.Grammar.{Expr, factored, factor, expression_of}
 use Rattle.tape.specs.Layout.{pack, BRACKET, spelt, name_w, flip}
 use Rattle.tape.specs.Encoding.{exp_w}
-use Rattle.tape.specs.Written.{Wrote, Got, Gives, none, stored, patch}
+use Rattle.tape.specs.Written.{Got, Gives, none, stored, patch}
 use Rattle.tape.specs.declared.Read.{Read}
 use Rattle.tape.specs.declared.Read.TheVariants.{Done, No}
-use Rattle.marks.specs.Marks.{mark_at}
 use Rattle.marks.specs.Room.{Spends}
 use Rattle.marks.specs.Laws.One.{passed, spelt_is}
-use Rattle.expressions.specs.Words.{Closed, Closes}
+use Rattle.expressions.specs.Words.{Closes}
 
 -- after a minus and after a bracket at p, where so many levels are left
 unfoldable after_minus : List ℕ → ℕ → ℕ → Reader Expr

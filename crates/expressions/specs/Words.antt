@@ -1,6 +1,6 @@
 -- What closes a bracket, and the words of two bounds. Assumes nothing.
-use Rattle.std.specs.Prelude.{◌≡◌, ℕ, ◌+◌, ◌-◌, ◌≤◌, ◌<◌, List, ◌++◌, length, set}
-use Rattle.rules.specs.Outcome.{Out, ok, refuse}
+use Rattle.std.specs.Prelude.{◌≡◌, ℕ, ◌-◌, ◌≤◌, ◌<◌, List, ◌++◌, length, set}
+use Rattle.rules.specs.Outcome.{ok, refuse}
 use Rattle.rules.specs.Grammar.{Expr}
 use Rattle.tape.specs.Layout.{pack, BRACKET, name_w}
 use Rattle.tape.specs.Encoding.{exp_w}

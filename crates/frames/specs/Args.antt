@@ -1,26 +1,25 @@
 -- An argument on the tape, and the wires it stands for. Assumes nothing.
-use Rattle.std.specs.Prelude.{◌≡◌, refl, ℕ, zero, suc, ◌+◌, ◌-◌, ◌≤◌, ◌<◌, Bool, true, false, List, [], ◌∷◌, ◌++◌, map, length, get_or, ℤ, pos, negsuc, ◌-ℤ◌, ltb}
+use Rattle.std.specs.Prelude.{◌≡◌, refl, ℕ, suc, ◌+◌, ◌≤◌, ◌<◌, false, List, length, get_or, ℤ, pos, negsuc, ◌-ℤ◌, ltb}
 use Rattle.std.proofs.Common.{sym, ap, ◌∙◌, subst, arith, lt-ltb, le-ltb}
-use Rattle.rules.specs.Outcome.{Out, ok, refuse, ◌>>=◌, need, nth}
+use Rattle.rules.specs.Outcome.{Out, ok, refuse, ◌>>=◌, need}
 use Rattle.rules.specs.Syntax.{Exp, Arg, whole, part, Callee}
 use Rattle.rules.specs.Values.{Env, generics, eval}
-use Rattle.rules.specs.Frames.{Cells, Sig, Frame as Names, offset, resolve}
+use Rattle.rules.specs.Frames.{Frame as Names, offset, resolve}
 use Rattle.rules.specs.Unfold.{Range, Wires}
-use Rattle.rules.proofs.Laws.Spelt.{AllExp, AllArg}
-use Rattle.tape.specs.Layout.{pack, kind_of, head_in, value_of, kind-of, head-of, value-of}
+use Rattle.rules.proofs.Laws.Spelt.{AllArg}
+use Rattle.tape.specs.Layout.{head_in, value_of, head-of, value-of}
 use Rattle.tape.specs.Encoding.{exp_w, arg_w}
 use Rattle.tape.specs.Resolved.{slot_w}
-use Rattle.tape.specs.Lies.{Lies, lies-first, lies-rest}
-use Rattle.values.specs.declared.Apart.{Apart}
+use Rattle.tape.specs.Lies.{lies-first, lies-rest}
 use Rattle.values.specs.declared.Apart.TheVariants.{By, Not}
 use Rattle.values.specs.Factors.{Grouped}
-use Rattle.values.specs.Here.{goes_on, Here, Says}
+use Rattle.values.specs.Here.{goes_on, Here}
 use Rattle.values.specs.Sizes.{apart_of}
 use Rattle.frames.specs.declared.Frame.{Frame}
 use Rattle.frames.specs.declared.Found.{Found}
 use Rattle.frames.specs.declared.Found.TheVariants.{At, Wrong}
 use Rattle.frames.specs.Rows.{Alone}
-use Rattle.frames.specs.Stands.{Stands, sig_at, name-is, name-inside, eval-knows}
+use Rattle.frames.specs.Stands.{Stands, name-is, eval-knows}
 
 -- the name that an argument names
 unfoldable pub arg_name : Arg ℕ → ℕ

@@ -1,16 +1,16 @@
 -- Names with fresh wires: the loop over declarations. Assumes nothing.
-use Rattle.std.specs.Prelude.{◌≡◌, refl, ℕ, zero, suc, ◌+◌, ◌-◌, ◌*◌, ◌/◌, ◌≤◌, ◌<◌, Bool, true, false, List, [], ◌∷◌, ◌++◌, map, get_or, set, ℤ, pos, leb}
-use Rattle.std.proofs.Common.{sym, ap, ◌∙◌, arith}
+use Rattle.std.specs.Prelude.{◌≡◌, refl, ℕ, ◌+◌, ◌/◌, ◌≤◌, ◌<◌, true, false, List, [], ◌∷◌, ◌++◌, map, get_or, set, ℤ, pos}
+use Rattle.std.proofs.Common.{ap, ◌∙◌, arith}
 use Rattle.std.proofs.Math.Path.{subst}
 use Rattle.std.proofs.Math.ListN.{length, length-append}
 use borrow.Author.Tests.{le-leb, lt-leb}
 use Rattle.rules.specs.Outcome.{Out, ok, refuse, ◌>>=◌, at, need}
 use Rattle.rules.specs.Syntax.{Sort, wire, vector, num, Decl}
-use Rattle.rules.specs.Values.{Env, Shape, shape}
+use Rattle.rules.specs.Values.{Env, shape}
 use Rattle.rules.specs.Frames.{Sig, Frame as Names}
 use Rattle.rules.specs.Unfold.{Range, State, declare}
 use Rattle.rules.proofs.Laws.Spelt.{All}
-use Rattle.tape.specs.Layout.{pack, value_of, value-of, name_w}
+use Rattle.tape.specs.Layout.{value_of, value-of, name_w}
 use Rattle.tape.specs.Encoding.{list_w, sort_w, decl_w}
 use Rattle.tape.specs.Resolved.{slot_w}
 use Rattle.tape.specs.Lies.{Lies, lies-first}

@@ -1,15 +1,15 @@
 -- The lists of a call on the tape: generics, and arguments. Assumes nothing.
-use Rattle.std.specs.Prelude.{◌≡◌, refl, ℕ, zero, suc, ◌+◌, ◌-◌, ◌≤◌, ◌<◌, Bool, true, false, List, [], ◌∷◌, ◌++◌, map, length, get_or, set, ℤ, pos}
+use Rattle.std.specs.Prelude.{◌≡◌, refl, ℕ, ◌+◌, ◌≤◌, ◌<◌, true, false, List, [], ◌∷◌, ◌++◌, map, length, get_or, set, ℤ}
 use Rattle.std.proofs.Math.Path.{sym}
-use Rattle.std.proofs.Common.{ap, ◌∙◌, subst, arith, append_assoc}
+use Rattle.std.proofs.Common.{ap, ◌∙◌, arith}
 use Rattle.std.proofs.lemmas.List.{map-append, length-map}
-use Rattle.rules.specs.Outcome.{Out, ok, refuse, ◌>>=◌}
+use Rattle.rules.specs.Outcome.{Out, ok, refuse}
 use Rattle.rules.specs.Syntax.{Exp, Arg, whole, part}
 use Rattle.rules.specs.Values.{Env, generics, eval, evals}
 use Rattle.rules.specs.Frames.{Frame as Names, resolve, resolves}
 use Rattle.rules.specs.Unfold.{Range, Wires}
 use Rattle.rules.proofs.Laws.Spelt.{All, AllArg}
-use Rattle.tape.specs.Layout.{pack, kind_of, kind-of}
+use Rattle.tape.specs.Layout.{kind_of, kind-of}
 use Rattle.tape.specs.Encoding.{exp_w, list_w, arg_w}
 use Rattle.tape.specs.Resolved.{slot_w}
 use Rattle.tape.specs.Lies.{Lies, lies-first}
@@ -19,10 +19,10 @@ use Rattle.values.specs.Sizes.{opens, stops_first, stops-kind}
 use Rattle.frames.specs.declared.Many.{Many}
 use Rattle.frames.specs.declared.Many.TheVariants.{Done, Wrong}
 use Rattle.frames.specs.Laid.{laid, laid-snoc}
-use Rattle.frames.specs.Rows.{among_of, Alone, Listed, Starts, Starting}
+use Rattle.frames.specs.Rows.{among_of, Alone, Listed, Starts}
 use Rattle.frames.specs.Runs.{runs, Going, Next, begin, next, stop, onward, finish}
 use Rattle.frames.specs.declared.Frame.{Frame}
-use Rattle.frames.specs.Stands.{Stands, Knows, eval-knows}
+use Rattle.frames.specs.Stands.{Stands, Knows}
 use Rattle.frames.specs.Args.{arg_name, GroupedArg, HereArg, arg-some}
 
 -- ---- generics

@@ -1,25 +1,23 @@
 -- Declarations on the tape: ports tied to the wires given, and names with fresh wires. Assumes nothing.
-use Rattle.std.specs.Prelude.{◌≡◌, refl, ℕ, zero, suc, ◌+◌, ◌-◌, ◌*◌, ◌≤◌, ◌<◌, Bool, true, false, List, [], ◌∷◌, ◌++◌, map, length, get_or, set, ℤ, pos, eqb}
+use Rattle.std.specs.Prelude.{◌≡◌, refl, ℕ, suc, ◌+◌, ◌≤◌, ◌<◌, Bool, true, false, List, [], ◌∷◌, ◌++◌, map, length, get_or, set, ℤ, eqb}
 use Rattle.std.proofs.Math.Path.{sym}
-use Rattle.std.proofs.Common.{ap, ◌∙◌, subst, arith, append_assoc, length-append, eq-eqb, ne_eqb}
-use Rattle.std.proofs.lemmas.List.{map-append, length-map}
+use Rattle.std.proofs.Common.{ap, ◌∙◌, subst, arith, eq-eqb, ne_eqb}
 use Rattle.rules.specs.Outcome.{Out, ok, refuse, ◌>>=◌, need}
 use Rattle.rules.specs.Syntax.{Sort, wire, vector, num, Decl}
 use Rattle.rules.specs.Values.{Env, Shape, shape}
 use Rattle.rules.specs.Frames.{Sig, Frame as Names, tie}
 use Rattle.rules.specs.Unfold.{Range, Wires}
 use Rattle.rules.proofs.Laws.Spelt.{All}
-use Rattle.tape.specs.Layout.{pack, kind_of, kind-of, name_w}
+use Rattle.tape.specs.Layout.{kind_of, kind-of, name_w}
 use Rattle.tape.specs.Encoding.{list_w, sort_w, decl_w}
 use Rattle.tape.specs.Resolved.{slot_w}
 use Rattle.tape.specs.Lies.{Lies, lies-first}
 use Rattle.values.specs.Sizes.{GroupedSort, HereSort, stops-kind}
-use Rattle.frames.specs.declared.Many.{Many}
-use Rattle.frames.specs.declared.Many.TheVariants.{Done, Wrong}
-use Rattle.frames.specs.Laid.{laid, laid-at}
+use Rattle.frames.specs.declared.Many.TheVariants.{Done}
+use Rattle.frames.specs.Laid.{laid}
 use Rattle.frames.specs.Rows.{among_of, Alone, Listed, Starts, Starting}
 use Rattle.frames.specs.Runs.{runs, Going, Next, begin, next, stop, onward, finish}
-use Rattle.frames.specs.Stands.{Knows, shape-knows, low_of}
+use Rattle.frames.specs.Stands.{low_of}
 use Rattle.frames.specs.Lists.{stored, Gathers, len_r}
 
 -- a declaration of a kind

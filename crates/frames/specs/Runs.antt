@@ -1,12 +1,12 @@
 -- One thing after another, each with its outcome: the loop over them on the tape. Assumes nothing.
-use Rattle.std.specs.Prelude.{◌≡◌, refl, ℕ, zero, suc, ◌+◌, ◌-◌, ◌≤◌, ◌<◌, Bool, true, false, List, [], ◌∷◌, ◌++◌}
+use Rattle.std.specs.Prelude.{◌≡◌, refl, ℕ, ◌+◌, ◌≤◌, ◌<◌, true, false, List, [], ◌∷◌, ◌++◌}
 use Rattle.std.proofs.Common.{sym, ◌∙◌, arith, append_assoc, append-nil}
 use Rattle.std.proofs.Math.Path.{ap, subst}
 use Rattle.std.proofs.Math.ListN.{length, length-append}
 use Rattle.rules.specs.Outcome.{Out, ok, refuse, ◌>>=◌}
 use Rattle.rules.proofs.Laws.Spelt.{All}
 use Rattle.tape.specs.Encoding.{list_w}
-use Rattle.frames.specs.Rows.{among_of, Alone, Listed, Cons, Starts, starting, rest, alone, more, no_more}
+use Rattle.frames.specs.Rows.{among_of, Alone, Listed, Starts, starting, rest, alone, more, no_more}
 
 unfoldable pub runs : {A B : Type 0} → (A → Out B) → List A → Out (List B)
 runs f [] = ok []

@@ -1,10 +1,10 @@
 -- What the code's frame stands for: an environment, and the wires of each name. Assumes nothing.
-use Rattle.std.specs.Prelude.{◌≡◌, refl, ℕ, zero, suc, ◌+◌, ◌-◌, ◌≤◌, ◌<◌, Bool, true, false, cond, List, [], ◌∷◌, ◌++◌, map, length, get_or, set, replicate, ℤ, pos, eqb}
-use Rattle.std.proofs.Common.{sym, ap, ◌∙◌, subst, arith, length-set, get_or-set_same, get_or-set_other, eq-eqb, ne_eqb}
+use Rattle.std.specs.Prelude.{◌≡◌, refl, ℕ, zero, suc, ◌+◌, ◌≤◌, ◌<◌, cond, List, [], ◌∷◌, map, length, get_or, set, ℤ, pos, eqb}
+use Rattle.std.proofs.Common.{sym, ap, ◌∙◌, arith, length-set, get_or-set_same, get_or-set_other, eq-eqb, ne_eqb}
 use Rattle.std.proofs.Math.Decide.{ℕ_discrete}
-use Rattle.rules.specs.Outcome.{Out, ok, refuse, ◌>>=◌, nth}
-use Rattle.rules.specs.Syntax.{Exp, number, name, neg, group, both, Sort, wire, vector, num, Callee}
-use Rattle.rules.specs.Values.{Env, generics, bound, ranged, apply, eval, shape, width}
+use Rattle.rules.specs.Outcome.{ok, nth}
+use Rattle.rules.specs.Syntax.{Exp, number, name, neg, group, both, Sort, wire, vector, num}
+use Rattle.rules.specs.Values.{Env, generics, bound, ranged, eval, shape}
 use Rattle.rules.specs.Frames.{Sig, Frame as Names}
 use Rattle.rules.specs.Unfold.{Range}
 use Rattle.rules.proofs.Laws.Spelt.{AllExp, AllSort}

@@ -1,6 +1,6 @@
 -- How what the code holds shows a state of the unfolding: counters, the netlist's words and the marks. Assumes nothing.
-use Rattle.std.specs.Prelude.{◌≡◌, refl, ℕ, zero, suc, ◌+◌, ◌-◌, ◌*◌, ◌≤◌, ◌<◌, Bool, false, not, ◌||◌, List, [], ◌∷◌, ◌++◌, map, length, get_or, set, take, ltb, eqb}
-use Rattle.std.proofs.Common.{sym, ap, ◌∙◌, subst, arith, append_assoc, get_or-set_same, get_or-set_other, get_or-take}
+use Rattle.std.specs.Prelude.{◌≡◌, refl, ℕ, zero, suc, ◌+◌, ◌*◌, ◌≤◌, ◌<◌, Bool, false, not, ◌||◌, List, [], ◌∷◌, ◌++◌, length, get_or, set, take, ltb, eqb}
+use Rattle.std.proofs.Common.{sym, ap, ◌∙◌, subst, arith, get_or-set_same, get_or-set_other, get_or-take}
 use native.Mathlib.Decide.{ℕ_discrete}
 use Rattle.std.proofs.Math.Bool.{true}
 use Rattle.std.proofs.Math.ListN.{length-append, length-set}
@@ -8,8 +8,8 @@ use borrow.Author.Tests.{lt-ltb, le-ltb, eq-eqb, ne_eqb, ltb-true, ltb-false}
 use Rattle.rules.specs.Text.{pick}
 use Rattle.rules.specs.declared.Gate.{Gate}
 use Rattle.rules.specs.Outcome.{Out, ok, refuse, ◌>>=◌, need}
-use Rattle.rules.specs.Primitives.{inputs_of, primitive}
-use Rattle.rules.specs.Netlist.{unused, gate_words}
+use Rattle.rules.specs.Primitives.{inputs_of}
+use Rattle.rules.specs.Netlist.{gate_words}
 use Rattle.rules.specs.Unfold.{State, tick, emit, driven, gate_on}
 use Rattle.rules.proofs.Laws.Order.{step-late}
 use Rattle.frames.specs.Laid.{laid, column, laid-append, laid-length}

@@ -1,11 +1,10 @@
 -- Laws of blocks. Assumes nothing.
 use Rattle.std.specs.Prelude.{◌≡◌, refl, ℕ, ◌+◌, ◌-◌, ◌≤◌, ◌<◌, length, set}
-use Rattle.std.proofs.Common.{sym, ap, ◌∙◌, arith, lt-ltb, le-ltb}
-use mathlib.Core.List.{List, [], ◌∷◌, ◌++◌, append_assoc}
+use Rattle.std.proofs.Common.{ap, ◌∙◌, arith, lt-ltb, le-ltb}
+use mathlib.Core.List.{List, [], ◌∷◌, append_assoc}
 use Rattle.rules.specs.Text.{pick}
-use Rattle.rules.specs.Outcome.{Out, ok, refuse}
-use Rattle.rules.specs.Syntax.{Name, Decl, Block}
-use Rattle.rules.specs.Readers.{Reader, ◌>>=◌, give, spelling, mark, a_name, rest}
+use Rattle.rules.specs.Outcome.{ok, refuse}
+use Rattle.rules.specs.Readers.{◌>>=◌, give, spelling, mark, a_name, rest}
 use Rattle.rules.specs.Grammar.{local, generics, ports, statement, statements_of, body, a_block, blocks}
 use Rattle.tape.specs.Layout.{pack, BLOCK, IN, OUT, VAR, BODY, spelt, name_w}
 use Rattle.tape.specs.Encoding.{list_w, decl_w, generic_w, stmts_w, block_w, callee_w}

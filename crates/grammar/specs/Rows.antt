@@ -1,5 +1,5 @@
 -- The list of blocks, and their words. Assumes nothing.
-use Rattle.std.specs.Prelude.{ℕ, List, [], ◌∷◌, ◌++◌}
+use Rattle.std.specs.Prelude.{ℕ, List, [], ◌∷◌}
 use Rattle.rules.specs.Grammar.{a_block}
 use Rattle.rules.proofs.Laws.Enough.{enough}
 use Rattle.tape.specs.Layout.{name_w}

@@ -1,8 +1,8 @@
 -- A block up to its BEGIN. Assumes nothing.
 use Rattle.std.specs.Prelude.{◌≡◌, ℕ, List, ◌∷◌, ◌++◌}
-use Rattle.rules.specs.Outcome.{Out, ok, refuse}
-use Rattle.rules.specs.Syntax.{Name, Decl, Block}
-use Rattle.rules.specs.Readers.{Reader, ◌>>=◌, give, mark}
+use Rattle.rules.specs.Outcome.{refuse}
+use Rattle.rules.specs.Syntax.{Name, Decl}
+use Rattle.rules.specs.Readers.{◌>>=◌, give, mark}
 use Rattle.rules.specs.Grammar.{body, a_block}
 use Rattle.tape.specs.Layout.{pack, BLOCK, IN, OUT, VAR, name_w}
 use Rattle.tape.specs.Encoding.{list_w, decl_w, generic_w}

@@ -1,8 +1,8 @@
 -- A loop up to its BEGIN. Assumes nothing.
-use Rattle.std.specs.Prelude.{◌≡◌, refl, ℕ, ◌+◌, ◌-◌, ◌≤◌, ◌<◌, List, [], ◌∷◌, ◌++◌, length, set}
+use Rattle.std.specs.Prelude.{◌≡◌, ℕ, ◌+◌, ◌≤◌, List, ◌∷◌, ◌++◌, length, set}
 use Rattle.std.proofs.Common.{◌∙◌}
 use native.Mathlib.Omega.{arith}
-use Rattle.rules.specs.Outcome.{Out, ok, refuse}
+use Rattle.rules.specs.Outcome.{ok, refuse}
 use Rattle.rules.specs.Syntax.{Name, end, loop}
 use Rattle.rules.specs.Readers.{Reader, ◌>>=◌, give, spelling, mark, a_name}
 use Rattle.rules.specs.Grammar.{Expr, Body, bounds, looping}
@@ -11,7 +11,7 @@ use Rattle.tape.specs.Encoding.{exp_w}
 use Rattle.tape.specs.Written.{Wrote, Got, none, stored, later, as-words}
 use Rattle.tape.specs.declared.Read.{Read}
 use Rattle.tape.specs.declared.Read.TheVariants.{Done, No}
-use Rattle.marks.specs.Laws.One.{on, stop, spelt_is}
+use Rattle.marks.specs.Laws.One.{on, spelt_is}
 use Rattle.expressions.specs.Words.{bounds_w}
 
 -- the index and the bounds were read up to n, so that a loop at p is what its body makes of them; their words were written

@@ -1,18 +1,17 @@
 -- Laws of statements, by the word that each begins with. Assumes nothing.
-use Rattle.std.specs.Prelude.{◌≡◌, refl, ℕ, zero, suc, ◌+◌, ◌-◌, ◌*◌, ◌≤◌, ◌<◌, List, [], ◌∷◌, ◌++◌, true, false, length, set}
-use Rattle.std.proofs.Common.{sym, ap, ◌∙◌, sub-one, arith, append-nil, append_assoc}
+use Rattle.std.specs.Prelude.{◌≡◌, refl, ℕ, zero, suc, ◌+◌, ◌-◌, ◌≤◌, List, [], ◌∷◌, true, false, length, set}
+use Rattle.std.proofs.Common.{◌∙◌, sub-one, append-nil, append_assoc}
 use borrow.Author.Tests.{eq-eqb, ne_eqb}
-use Rattle.rules.specs.declared.Word.{Word}
 use Rattle.rules.specs.declared.Word.TheVariants.{Bad, Name as Named, Number, Mark}
 use Rattle.rules.specs.Text.{pick}
-use Rattle.rules.specs.Outcome.{Out, ok, refuse}
+use Rattle.rules.specs.Outcome.{ok, refuse}
 use Rattle.rules.specs.Words.{word_at}
-use Rattle.rules.specs.Syntax.{Name, Exp, Arg, whole, part, end, call, loop}
-use Rattle.rules.specs.Readers.{Reader, ◌>>=◌, give, refused, spelling, after, mark, a_name, if_next, some}
-use Rattle.rules.specs.Grammar.{Expr, Body, expression, argument, arguments, calling, looping, stated, statement, statements_of}
+use Rattle.rules.specs.Syntax.{whole, part, end, call, loop}
+use Rattle.rules.specs.Readers.{Reader, give, refused, spelling, after, mark, a_name, if_next, some}
+use Rattle.rules.specs.Grammar.{Body, expression, argument, arguments, calling, looping, stated, statement, statements_of}
 use Rattle.tape.specs.Layout.{pack, CALL, INPUT, OUTPUT, BODY, spelt, name_w}
 use Rattle.tape.specs.Encoding.{exp_w, arg_w, list_w, stmts_w, callee_w}
-use Rattle.tape.specs.Written.{Wrote, Got, none, stored, later, patch, as-words}
+use Rattle.tape.specs.Written.{Got, none, stored, later, patch, as-words}
 use Rattle.marks.specs.Marks.{is_code}
 use Rattle.marks.specs.Laws.One.{on, stop, there, absent, spelt_is}
 use Rattle.statements.specs.Heads.{Headed}

@@ -1,7 +1,7 @@
 -- The lists of statements, and their words. Assumes nothing.
-use Rattle.std.specs.Prelude.{◌≡◌, refl, ℕ, suc, List, [], ◌∷◌, ◌++◌, length}
-use Rattle.std.proofs.Common.{sym, ap, ◌∙◌, append_assoc}
-use Rattle.rules.specs.Syntax.{Name, Stmts, end, call, loop, before}
+use Rattle.std.specs.Prelude.{◌≡◌, refl, ℕ, List, [], ◌∷◌, ◌++◌}
+use Rattle.std.proofs.Common.{append_assoc}
+use Rattle.rules.specs.Syntax.{end, call, loop, before}
 use Rattle.rules.specs.Grammar.{Body, expression, argument, statement}
 use Rattle.rules.proofs.Laws.Enough.{enough}
 use Rattle.tape.specs.Layout.{name_w}

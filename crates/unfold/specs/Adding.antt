@@ -1,6 +1,6 @@
 -- A call of a primitive: one gate more. Assumes nothing.
-use Rattle.std.specs.Prelude.{◌≡◌, refl, ℕ, zero, suc, ◌+◌, ◌-◌, ◌≤◌, ◌<◌, Bool, true, false, ◌&&◌, List, [], ◌∷◌, ◌++◌, map, length, get_or, replicate, ℤ, pos, T, eqb}
-use Rattle.std.proofs.Common.{sym, ap, ◌∙◌, subst, arith, eqb→eq}
+use Rattle.std.specs.Prelude.{◌≡◌, ℕ, zero, suc, ◌<◌, List, [], ◌∷◌, ◌++◌, map, length, get_or, replicate, ℤ, T, eqb}
+use Rattle.std.proofs.Common.{sym, ap, ◌∙◌, arith, eqb→eq}
 use Rattle.std.proofs.lemmas.List.{length-map}
 use Rattle.rules.specs.Outcome.{Out, ok, refuse, ◌>>=◌}
 use Rattle.rules.specs.Primitives.{inputs_of}
@@ -11,7 +11,7 @@ use Rattle.rules.specs.Unfold.{Range, Wires, State, emit, gate_on}
 use Rattle.rules.proofs.Laws.Outcomes.{both_yes, no_ok}
 use Rattle.rules.proofs.Laws.Same.{Ends as Fitting, ends-yes}
 use Rattle.frames.specs.declared.Frame.{Frame}
-use Rattle.frames.specs.Laid.{laid, column-at}
+use Rattle.frames.specs.Laid.{column-at}
 use Rattle.frames.specs.Lists.{Drawn, base_r}
 use Rattle.gates.specs.Shows.{Ends}
 use Rattle.unfold.specs.Entering.{WrittenCall, Collected, gathered}

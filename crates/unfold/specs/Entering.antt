@@ -1,10 +1,10 @@
 -- A call of a block, up to its body: generics, arguments, ports, locals. Assumes nothing.
-use Rattle.std.specs.Prelude.{◌≡◌, refl, ℕ, zero, suc, ◌+◌, ◌-◌, ◌*◌, ◌≤◌, ◌<◌, Bool, true, false, List, [], ◌∷◌, ◌++◌, map, length, get_or, replicate, ℤ, pos}
-use Rattle.std.proofs.Common.{sym, ap, ◌∙◌, subst, zero-add, arith, length-append}
+use Rattle.std.specs.Prelude.{◌≡◌, refl, ℕ, suc, ◌+◌, ◌≤◌, List, [], ◌∷◌, ◌++◌, map, length, get_or, replicate, ℤ, pos}
+use Rattle.std.proofs.Common.{sym, ap, ◌∙◌, subst, arith, length-append}
 use Rattle.std.proofs.lemmas.List.{map-append, length-map, length-replicate}
-use Rattle.rules.specs.Outcome.{Out, ok, refuse, ◌>>=◌, need}
+use Rattle.rules.specs.Outcome.{Out, ok, refuse, ◌>>=◌}
 use Rattle.rules.specs.Syntax.{Name, Exp, Arg, Decl, Block, Callee}
-use Rattle.rules.specs.Values.{Env, generics, evals, shape}
+use Rattle.rules.specs.Values.{Env, evals}
 use Rattle.rules.specs.Frames.{Sig, Frame as Names, blanks, resolves, tie}
 use Rattle.rules.specs.Unfold.{Range, Wires, State, declare}
 use Rattle.rules.proofs.Laws.Outcomes.{no_ok, ok-inj, inv}
@@ -15,11 +15,11 @@ use Rattle.frames.specs.declared.Many.TheVariants.{Done, Wrong}
 use Rattle.frames.specs.Laid.{laid, column, column-after, laid-at, laid-length}
 use Rattle.frames.specs.Stands.{Stands, Inside, base_of, len_of, low_of}
 use Rattle.frames.specs.Lists.{value_w, HereValues, HereArgs, Draws, Drawn, Resolves, Gathers, base_r, len_r}
-use Rattle.frames.specs.Ports.{Port, port_w, Offered, decls_in, given_in, tie_all}
+use Rattle.frames.specs.Ports.{port_w, Offered, tie_all}
 use Rattle.frames.specs.declared.Fresh.{Fresh}
 use Rattle.frames.specs.declared.Fresh.TheVariants.{Done as Ready, Wrong as No}
 use Rattle.frames.specs.Fresh.{Filled, up_to, Declares}
-use Rattle.unfold.specs.Header.{ports, Ported, ported, HereBlock, is-ported, ports-end, after_ports, after_generics}
+use Rattle.unfold.specs.Header.{ports, HereBlock, is-ported, ports-end, after_ports, after_generics}
 
 -- ---- generics, then arguments
 

@@ -1,21 +1,21 @@
 -- A block on the tape: its generics, its ports, its locals and its body, one after the other. Assumes nothing.
-use Rattle.std.specs.Prelude.{◌≡◌, refl, ℕ, zero, suc, ◌+◌, ◌-◌, ◌*◌, ◌≤◌, ◌<◌, Bool, true, false, ◌&&◌, length, get_or, leb, ltb, ◌⊎◌}
+use Rattle.std.specs.Prelude.{◌≡◌, refl, ℕ, suc, ◌+◌, ◌≤◌, ◌<◌, Bool, true, false, ◌&&◌, length, get_or, leb, ltb, ◌⊎◌}
 use Rattle.std.proofs.Common.{sym, ap, ◌∙◌, inl, inr, ⊎_elim}
 use Rattle.std.proofs.Math.Path.{subst}
 use native.Mathlib.Omega.{arith}
-use mathlib.Core.List.{List, [], ◌∷◌, ◌++◌, map, append_assoc}
+use mathlib.Core.List.{List, [], ◌∷◌, ◌++◌, append_assoc}
 use Rattle.std.proofs.Math.ListN.{length-append}
 use Rattle.std.proofs.lemmas.Bool.{lt-leb}
 use Rattle.rules.specs.Syntax.{Name, Decl, Block, Stmts, Callee}
 use Rattle.rules.specs.Unfold.{Range}
 use Rattle.rules.proofs.Laws.Spelt.{All}
 use Rattle.tape.specs.Layout.{pack, kind_of, value_of, kind-of, value-of, name_w}
-use Rattle.tape.specs.Encoding.{list_w, decl_w, sort_w, generic_w, stmts_w, block_w}
+use Rattle.tape.specs.Encoding.{list_w, decl_w, generic_w, stmts_w, block_w}
 use Rattle.tape.specs.Resolved.{slot_w, meant_w}
 use Rattle.tape.specs.Lies.{Lies, lies-first, lies-rest, lies-left, lies-right}
 use Rattle.values.specs.Here.{goes_on}
 use Rattle.values.specs.Sizes.{stops-kind}
-use Rattle.frames.specs.Rows.{among_of, Listed, Starts, Starting}
+use Rattle.frames.specs.Rows.{among_of, Listed, Starts}
 use Rattle.frames.specs.Ports.{Declared, decl-starts, Port, port_w, Tied, HerePorts, decls_in, given_in}
 use Rattle.frames.specs.Fresh.{name_words}
 

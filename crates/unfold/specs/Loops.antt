@@ -1,24 +1,23 @@
 -- A loop on the tape, and where each statement ends. Assumes nothing.
-use Rattle.std.specs.Prelude.{◌≡◌, refl, ℕ, zero, suc, ◌+◌, ◌-◌, ◌*◌, ◌≤◌, ◌<◌, Bool, true, false, List, [], ◌∷◌, ◌++◌, ◌⊎◌, get_or}
+use Rattle.std.specs.Prelude.{◌≡◌, refl, ℕ, ◌+◌, ◌<◌, List, ◌∷◌, ◌++◌, get_or}
 use Rattle.std.proofs.Common.{sym, ◌∙◌, subst, append_assoc, inl}
 use Rattle.std.proofs.Math.Path.{ap}
 use native.Mathlib.Omega.{arith}
 use Rattle.std.proofs.Math.Logic.{inr}
 use Rattle.std.proofs.Math.ListN.{length, length-append}
-use Rattle.rules.specs.Syntax.{Exp, Arg, Stmts, end, call, loop, Callee}
-use Rattle.rules.proofs.Laws.Spelt.{All, AllExp, AllStmts}
+use Rattle.rules.specs.Syntax.{Exp, Arg, Stmts, call, loop, Callee}
+use Rattle.rules.proofs.Laws.Spelt.{All, AllStmts}
 use Rattle.rules.proofs.Laws.Numbered.{CalleeOf}
 use Rattle.tape.specs.Layout.{pack, kind_of, value_of, kind-of, value-of}
 use Rattle.tape.specs.Encoding.{exp_w, arg_w, list_w, stmts_w}
 use Rattle.tape.specs.Resolved.{slot_w, meant_w}
 use Rattle.tape.specs.Lies.{Lies, lies-first, lies-rest, lies-left, lies-right}
-use Rattle.values.specs.Factors.{Grouped, grouped}
-use Rattle.values.specs.Here.{goes_on, Here}
+use Rattle.values.specs.Factors.{grouped}
 use Rattle.values.specs.Sizes.{stops_first, stops-kind}
 use Rattle.values.specs.Loops.{HereTwo}
 use Rattle.unfold.specs.Header.{body_w}
 use Rattle.unfold.specs.Statements.{HereStmts, Stop, after_call, call-rest, call-sound, from-values, after-args, meant-below}
-use Rattle.unfold.specs.Quiet.{Quiet, Calm, Loud, soft, quiet-append, quiet-exp, quiet-values, quiet-args}
+use Rattle.unfold.specs.Quiet.{Calm, Loud, soft, quiet-append, quiet-exp, quiet-values, quiet-args}
 
 module _ (len : ℕ) {t : List ℕ} {at last : ℕ} {p i : ℕ} {a b : Exp ℕ} {body rest : Stmts ℕ Callee} (h : HereStmts len t at last (loop p i a b body rest)) where
   pub from-bounds : Lies t (at + 1 + 1) (exp_w slot_w 0 a ++ (exp_w slot_w 0 b ++ ((pack 8 0 (length (body_w body)) ∷ body_w body) ++ body_w rest)))

@@ -1,24 +1,22 @@
 -- One statement: what its first word tells, and where the next begins. Assumes nothing.
-use Rattle.std.specs.Prelude.{◌≡◌, refl, ℕ, zero, suc, ◌+◌, ◌-◌, ◌*◌, ◌/◌, ◌%◌, ◌≤◌, ◌<◌, Bool, ◌&&◌, List, [], ◌∷◌, ◌++◌, ◌⊎◌, get_or, ltb, leb}
-use Rattle.std.proofs.Common.{sym, ◌∙◌, arith, inl, inr, lt-ltb}
+use Rattle.std.specs.Prelude.{◌≡◌, ℕ, ◌+◌, ◌-◌, ◌/◌, ◌%◌, ◌≤◌, ◌<◌, Bool, List, ◌∷◌, ◌++◌, ◌⊎◌, get_or}
+use Rattle.std.proofs.Common.{sym, ◌∙◌, arith, inl, lt-ltb}
 use Rattle.std.proofs.Math.Path.{ap, subst}
 use Rattle.std.proofs.Math.Bool.{true, false}
 use Rattle.std.proofs.Math.ListN.{length, length-append}
 use Rattle.rules.specs.Syntax.{Exp, Arg, Stmts, end, call, loop, Callee, gate, block}
-use Rattle.rules.proofs.Laws.Spelt.{All, AllExp, AllStmts}
+use Rattle.rules.proofs.Laws.Spelt.{AllStmts}
 use Rattle.rules.proofs.Laws.Numbered.{CalleeOf}
-use Rattle.tape.specs.Layout.{pack, kind_of, value_of, kind-of, value-of}
-use Rattle.tape.specs.Encoding.{exp_w, arg_w, list_w, stmts_w}
+use Rattle.tape.specs.Layout.{pack, kind_of, value_of, kind-of}
+use Rattle.tape.specs.Encoding.{exp_w, stmts_w}
 use Rattle.tape.specs.Resolved.{slot_w, meant_w, callee_number}
-use Rattle.tape.specs.Lies.{Lies, lies-first, lies-rest, lies-left, lies-right}
-use Rattle.values.specs.Factors.{grouped}
+use Rattle.tape.specs.Lies.{lies-first}
 use Rattle.frames.specs.Rows.{among_of}
 use Rattle.unfold.specs.declared.Head.{Head}
 use Rattle.unfold.specs.declared.Head.TheVariants.{Gate, Block, Loop}
-use Rattle.unfold.specs.Header.{body_w}
-use Rattle.unfold.specs.Statements.{HereStmts, Stop, stop-over, call-rest, after-args, meant-below}
+use Rattle.unfold.specs.Statements.{HereStmts, stop-over, call-rest, after-args, meant-below}
 use Rattle.unfold.specs.Quiet.{Calm, WrittenCalm}
-use Rattle.unfold.specs.Loops.{body_at, from-bounds, loop-ends, body-kind, loop-many, loop-index, loop-place, loop-rest, loop-calm, parts_w, call-word, call-calm, call-after}
+use Rattle.unfold.specs.Loops.{body_at, loop-ends, body-kind, loop-many, loop-index, loop-place, loop-rest, loop-calm, parts_w, call-word, call-calm, call-after}
 
 -- the statements after the first
 unfoldable pub later : Stmts ℕ Callee → Stmts ℕ Callee

@@ -1,11 +1,10 @@
 -- A call of a block: the frame of its body. Assumes nothing.
-use Rattle.std.specs.Prelude.{◌≡◌, refl, ℕ, zero, suc, ◌+◌, ◌-◌, ◌≤◌, ◌<◌, List, [], ◌∷◌, ◌++◌, map, length, get_or, replicate, ℤ, pos}
-use Rattle.std.proofs.Common.{sym, ap, ◌∙◌, subst, arith, length-append}
-use Rattle.std.proofs.lemmas.List.{length-map}
-use Rattle.rules.specs.Outcome.{Out, ok, refuse, ◌>>=◌, at}
+use Rattle.std.specs.Prelude.{◌≡◌, refl, ℕ, suc, ◌+◌, ◌≤◌, List, [], ◌∷◌, ◌++◌, map, length, replicate, ℤ, pos}
+use Rattle.std.proofs.Common.{sym, ap, ◌∙◌, arith, length-append}
+use Rattle.rules.specs.Outcome.{Out, ok, refuse, ◌>>=◌}
 use Rattle.rules.specs.Syntax.{Exp, Arg, Decl, Block, Callee}
-use Rattle.rules.specs.Values.{Env, generics, evals, shape}
-use Rattle.rules.specs.Frames.{Sig, Frame as Names, blanks, resolve, resolves, tie}
+use Rattle.rules.specs.Values.{Env, generics, evals}
+use Rattle.rules.specs.Frames.{Sig, Frame as Names, blanks, resolves}
 use Rattle.rules.specs.Unfold.{Range, Wires, State, declare}
 use Rattle.rules.proofs.Laws.Outcomes.{no_ok, ok-inj, inv, inv_at, refused, went}
 use Rattle.frames.specs.declared.Frame.{Frame}
@@ -15,7 +14,7 @@ use Rattle.frames.specs.Fresh.{Filled, up_to}
 use Rattle.unfold.specs.declared.Entry.{Entry}
 use Rattle.unfold.specs.declared.Entry.TheVariants.{Body, Wrong}
 use Rattle.unfold.specs.Header.{HereBlock, after_locals, body_w}
-use Rattle.unfold.specs.Entering.{HereCall, WrittenCall, gathered, entered, Offers, Collected, tied-many, blank-many}
+use Rattle.unfold.specs.Entering.{WrittenCall, gathered, entered, Offers, Collected, tied-many, blank-many}
 
 -- ---- how many there are
 

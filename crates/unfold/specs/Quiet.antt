@@ -1,12 +1,12 @@
 -- The words of a statement's own parts: none of them begins a statement or a body. Assumes nothing.
-use Rattle.std.specs.Prelude.{◌≡◌, refl, ℕ, zero, suc, ◌+◌, ◌-◌, ◌*◌, ◌≤◌, ◌<◌, Bool, true, false, List, [], ◌∷◌, ◌++◌, ◌⊎◌, length, get_or}
+use Rattle.std.specs.Prelude.{◌≡◌, refl, ℕ, suc, ◌+◌, ◌≤◌, ◌<◌, List, [], ◌∷◌, ◌++◌, ◌⊎◌, length, get_or}
 use Rattle.std.proofs.Common.{sym, ap, ◌∙◌, subst, arith, inl, inr, length-append}
-use Rattle.rules.specs.Syntax.{Op, plus, minus, times, Exp, number, name, neg, group, both, Arg, whole, part, Callee}
-use Rattle.rules.proofs.Laws.Spelt.{All, AllExp, AllArg, strength}
+use Rattle.rules.specs.Syntax.{Exp, number, name, neg, group, both, Arg, whole, part}
+use Rattle.rules.proofs.Laws.Spelt.{All, AllExp, AllArg}
 use Rattle.tape.specs.Layout.{pack, kind_of, kind-of, flip, head_of}
 use Rattle.tape.specs.Encoding.{exp_w, arg_w, list_w}
 use Rattle.tape.specs.Resolved.{slot_w}
-use Rattle.tape.specs.Lies.{Lies, lies-first, lies-rest, lies-room}
+use Rattle.tape.specs.Lies.{Lies, lies-first, lies-rest}
 use Rattle.values.specs.Factors.{Grouped}
 use Rattle.values.specs.Here.{flip-below, head-below}
 use Rattle.frames.specs.Args.{GroupedArg}

@@ -1,6 +1,6 @@
 -- What a resolved call's arguments name, and how many they are. Assumes nothing.
-use Rattle.std.specs.Prelude.{◌≡◌, refl, ℕ, zero, suc, ◌+◌, ◌<◌, List, [], ◌∷◌, ◌++◌, length}
-use Rattle.std.proofs.Common.{sym, ap, ◌∙◌, arith}
+use Rattle.std.specs.Prelude.{◌≡◌, refl, ℕ, suc, ◌<◌, List, [], ◌∷◌, ◌++◌, length}
+use Rattle.std.proofs.Common.{ap}
 use Rattle.rules.specs.Names.{Role}
 use Rattle.rules.specs.Syntax.{Arg, whole, part}
 use Rattle.rules.proofs.Laws.Scoped.{ArgOk, ArgsOk}

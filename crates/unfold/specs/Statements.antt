@@ -1,6 +1,6 @@
 -- Statements on the tape: where the parts of a call and of a loop lie. Assumes nothing.
-use Rattle.std.specs.Prelude.{◌≡◌, refl, ℕ, zero, suc, ◌+◌, ◌-◌, ◌*◌, ◌/◌, ◌%◌, ◌≤◌, ◌<◌, Bool, true, false, List, [], ◌∷◌, ◌++◌, map, ◌⊎◌, get_or}
-use Rattle.std.proofs.Common.{sym, ◌∙◌, append_assoc, ⊎_elim, le-ltb}
+use Rattle.std.specs.Prelude.{◌≡◌, refl, ℕ, ◌+◌, ◌≤◌, ◌<◌, false, List, [], ◌∷◌, ◌++◌, map, ◌⊎◌, get_or}
+use Rattle.std.proofs.Common.{sym, ◌∙◌, append_assoc, le-ltb}
 use Rattle.std.proofs.Math.Path.{ap, subst}
 use native.Mathlib.Omega.{arith}
 use Rattle.std.proofs.Math.Logic.{inl, inr}
@@ -8,16 +8,16 @@ use Rattle.std.proofs.Math.ListN.{length, length-append}
 use Rattle.rules.specs.Syntax.{Exp, Arg, whole, part, Stmts, end, call, loop, Callee, gate, block}
 use Rattle.rules.proofs.Laws.Spelt.{All, AllExp, AllArg, AllStmts}
 use Rattle.rules.proofs.Laws.Numbered.{CalleeOf}
-use Rattle.tape.specs.Layout.{pack, kind_of, value_of, kind-of, value-of}
-use Rattle.tape.specs.Encoding.{exp_w, arg_w, list_w, stmts_w}
+use Rattle.tape.specs.Layout.{kind_of, kind-of}
+use Rattle.tape.specs.Encoding.{arg_w, list_w, stmts_w}
 use Rattle.tape.specs.Resolved.{slot_w, meant_w, callee_number}
 use Rattle.tape.specs.Lies.{Lies, lies-first, lies-rest, lies-left, lies-right}
 use Rattle.values.specs.Factors.{Grouped, grouped}
 use Rattle.values.specs.Here.{goes_on}
 use Rattle.values.specs.Sizes.{stops_end, stops-kind}
-use Rattle.frames.specs.Rows.{among_of, Listed}
+use Rattle.frames.specs.Rows.{among_of}
 use Rattle.frames.specs.Args.{arg_name, GroupedArg}
-use Rattle.frames.specs.Lists.{value_w, HereValues, tagged_w, tagged, tag, Given, HereArgs}
+use Rattle.frames.specs.Lists.{value_w, tagged_w, tagged, tag, Given}
 use Rattle.unfold.specs.Header.{body_w, over_below, over-above}
 use Rattle.unfold.specs.Entering.{HereCall}
 

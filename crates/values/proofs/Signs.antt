@@ -1,6 +1,6 @@
 -- Laws of signed numbers: what a 64-bit sum, difference and product of two 32-bit numbers come to.
 -- Assumes nothing.
-use mathlib.Core.Path.{◌≡◌, refl}
+use mathlib.Core.Path.{◌≡◌, ap, ◌∙◌, refl}
 use mathlib.Core.Bool.{Bool, true, false, cond}
 use Prim.Native.Nat.{ℕ, zero, suc, ◌-◌, ◌*◌, ◌^◌, ◌<◌, ◌≤◌}
 use native.Mathlib.Nat.{mul-le-mul}
@@ -116,3 +116,21 @@ pub apart-small : (d : ℤ) {k : ℕ} → SFits w64 d → By k ≡ apart_of d �
 unfolding apart_of
 apart-small (pos j) {k} f e = let q : k ≡ j = cc in omega (arith, f.sfits)
 apart-small (negsuc j) f e = let z : ◌≡◌ {A = ℕ} 0 1 = cc in absurd (omega arith)
+
+-- the same laws of clip's three answers over the number as a 64-bit variable holds it
+pub clip_below : (z : ℤ) → SFits w64 z → lt_z (to_z w64 (of_z w64 z)) (negsuc 999999) ≡ true → Beyond ≡ clipped z
+clip_below z f l = clip-low z (rw (to_z-of_z {w = w64} f) at l)
+
+pub clip_above : (z : ℤ) → SFits w64 z → lt_z (pos 1000000) (to_z w64 (of_z w64 z)) ≡ true → Beyond ≡ clipped z
+clip_above z f h = clip-high z (rw (to_z-of_z {w = w64} f) at h)
+
+pub clip_fits : (z : ℤ) → SFits w64 z → lt_z (to_z w64 (of_z w64 z)) (negsuc 999999) ≡ false → lt_z (pos 1000000) (to_z w64 (of_z w64 z)) ≡ false → SFits w32 (to_z w64 (of_z w64 z))
+clip_fits z f l h = let back = to_z-of_z {w = w64} f in rw back (clip-fits z (rw back at l) (rw back at h))
+
+pub clip_within : (z : ℤ) → SFits w64 z → lt_z (to_z w64 (of_z w64 z)) (negsuc 999999) ≡ false → lt_z (pos 1000000) (to_z w64 (of_z w64 z)) ≡ false
+    → Is (to_z w32 (of_z w32 (to_z w64 (of_z w64 z)))) ≡ clipped z
+clip_within z f l h =
+    let back = to_z-of_z {w = w64} f in
+    let low = rw back at l in
+    let high = rw back at h in
+    rw back (ap Is (to_z-of_z {w = w32} (clip-fits z low high)) ∙ clip-in z low high)

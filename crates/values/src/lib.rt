@@ -68,6 +68,7 @@ const MOST: usize = 256;
 const LIMIT: i64 = 1000000;
 
 // A number, where it is in range.
+#[tactic(auto, using(crate::proofs::Signs::clip_below, crate::proofs::Signs::clip_above, crate::proofs::Signs::clip_fits, crate::proofs::Signs::clip_within))]
 pub fn clip(z: i64) -> Number
     ensures { result ≡ clipped z }
 {

@@ -1,10 +1,7 @@
-use Prim.Native.Nat.{◌+◌, ◌-◌, ◌*◌, ◌≤◌}
 use Rattle.declarations.specs.Parts.{port-any, placed}
 use Rattle.declarations.specs.Rows.{ports-row}
-use Rattle.marks.specs.Laws.Lists.{Listing, begun, wrong, last, item-off, onto}
-use borrow.Author.Rules.{rules}
-use lib.ListN.{length}
-use mathlib.Core.Path.{◌≡◌, refl, sym, ◌∙◌}
+use Rattle.marks.specs.Laws.Lists.{begun, wrong, last, item-off, onto}
+use mathlib.Core.Path.{refl, sym, ◌∙◌}
 use native.Mathlib.Omega.{arith}
 use Rattle.declarations.proofs.more_ports.Goals as goal
 
@@ -18,7 +15,7 @@ pub shape_of-tape-in-Wrong : goal.shape_of-tape-in-Wrong
 shape_of-tape-in-Wrong c = c.loop-j.invariant.1
 
 pub returns-in-Wrong : goal.returns-in-Wrong
-returns-in-Wrong c = record { gives = wrong (ports-row _ c.args.kind) c.loop-j.invariant.0 c.loop-j.invariant.3 _ _ (sym c.in-Wrong.is ∙ c.separator-d.ensures.value); spends = tt; }
+returns-in-Wrong c = record { gives = wrong (ports-row _ c.args.kind) c.loop-j.invariant.0 c.loop-j.invariant.3 _ _ (sym c.in-Wrong.is ∙ c.separator-d.ensures.value); spends = tt }
 
 pub shape_of-tape-in-Last : goal.shape_of-tape-in-Last
 shape_of-tape-in-Last c = c.loop-j.invariant.1
@@ -26,7 +23,7 @@ shape_of-tape-in-Last c = c.loop-j.invariant.1
 pub returns-in-Last : goal.returns-in-Last
 returns-in-Last c =
     let x = rw c.in-Last.is at c.separator-d.ensures.parted in
-    record { gives = last (ports-row _ c.args.kind) c.loop-j.invariant.0 c.loop-j.invariant.3 _ _ (sym c.in-Last.is ∙ c.separator-d.ensures.value) (omega arith); spends = omega (arith, c.loop-j.invariant); }
+    record { gives = last (ports-row _ c.args.kind) c.loop-j.invariant.0 c.loop-j.invariant.3 _ _ (sym c.in-Last.is ∙ c.separator-d.ensures.value) (omega arith); spends = omega (arith, c.loop-j.invariant) }
 
 pub port-item-requires : goal.port-item-requires
 port-item-requires c =
@@ -34,28 +31,28 @@ port-item-requires c =
     omega (arith, c.requires, c.loop-j.invariant)
 
 pub shape_of-tape-in_default : goal.shape_of-tape-in_default
-shape_of-tape-in_default c = c.port-item.auto.1.0 ∙ c.loop-j.invariant.1
+shape_of-tape-in_default c = c.port-item.auto.tape ∙ c.loop-j.invariant.1
 
 pub returns-in_default : goal.returns-in_default
 returns-in_default c =
     let p = c.in_default.is in
-    rw p (item-off (ports-row _ c.args.kind) c.loop-j.invariant.0 c.loop-j.invariant.3 (sym c.in-Another.is ∙ c.separator-d.ensures.value) (port-any _ _ _ _ _ ∙ rw p at c.port-item.ensures.gives), tt)
+    record { gives = rw p (item-off (ports-row _ c.args.kind) c.loop-j.invariant.0 c.loop-j.invariant.3 (sym c.in-Another.is ∙ c.separator-d.ensures.value) (port-any _ _ _ _ _ ∙ rw p at c.port-item.ensures.gives)); spends = rw p tt }
 
 pub overflow_add-k : goal.overflow_add-k
-overflow_add-k c = let f = rw c.in-Done.is at c.port-item.ensures.spends.1 in omega arith
+overflow_add-k c = let f = rw c.in-Done.is at c.port-item.ensures.below in omega arith
 
 pub loop-j-smaller : goal.loop-j-smaller
 loop-j-smaller c =
     let x = rw c.in-Another.is at c.separator-d.ensures.parted in
-    let u = rw c.in-Done.is at c.port-item.ensures.spends.0 in
+    let u = rw c.in-Done.is at c.port-item.ensures.spends in
     omega arith
 
 pub loop-j-preserved : goal.loop-j-preserved
 loop-j-preserved c =
     let x = rw c.in-Another.is at c.separator-d.ensures.parted in
-    let u = rw c.in-Done.is at c.port-item.ensures.spends.0 in (
+    let u = rw c.in-Done.is at c.port-item.ensures.spends in (
       onto (ports-row _ c.args.kind) c.loop-j.invariant.0 c.loop-j.invariant.3 (sym c.in-Another.is ∙ c.separator-d.ensures.value) (placed (port-any _ _ _ _ _) (rw c.in-Done.is at c.port-item.ensures.gives)) _ (omega arith),
-      c.port-item.auto.1.0 ∙ c.loop-j.invariant.1,
+      c.port-item.auto.tape ∙ c.loop-j.invariant.1,
       omega (arith, c.loop-j.invariant),
       omega arith,
       omega (arith, c.loop-j.invariant),

@@ -1,11 +1,8 @@
 use Prim.Native.Nat.{◌+◌, ◌-◌, ◌*◌, ◌≤◌}
-use Rattle.declarations.specs.Parts.{port-any, placed}
 use Rattle.declarations.specs.Rows.{ports-row}
-use Rattle.marks.specs.Laws.Lists.{Listing, begun, wrong, last, item-off, onto}
-use borrow.Author.Rules.{rules}
+use Rattle.marks.specs.Laws.Lists.{Listing}
 use lib.ListN.{length}
-use mathlib.Core.Path.{◌≡◌, refl, sym, ◌∙◌}
-use native.Mathlib.Omega.{arith}
+use mathlib.Core.Path.{◌≡◌}
 use Rattle.declarations.proofs.more_ports.Given as goal
 
 abbrev pub invariant-loop-j : goal.invariant-loop-j

@@ -1,6 +1,5 @@
 use Rattle.rules.specs.Text.{pick}
 use Rattle.tape.specs.Layout.{flip}
-use borrow.Author.Rules.{rules}
 use borrow.Author.Tests.{eq-eqb, ne_eqb}
 use native.Mathlib.Omega.{arith}
 use Rattle.expressions.proofs.flipped.Goals as goal

@@ -1,6 +1,5 @@
 use Rattle.frames.specs.Rows.{among_of}
 use borrow.Author.Tests.{lt-ltb, le-ltb, lt-leb, le-leb}
-use borrow.Author.Rules.{rules}
 use Rattle.frames.proofs.among.Goals as goal
 
 pub returns-then-i-end : goal.returns-then-i-end

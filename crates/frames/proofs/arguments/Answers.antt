@@ -1,21 +1,12 @@
-use Prim.Native.Nat.{ℕ, ◌+◌, ◌-◌}
 use Rattle.frames.specs.Args.{Finds, Fits}
 use Rattle.frames.specs.Laid.{laid-length}
-use Rattle.frames.specs.Lists.{HereArgs, here-arg, Resolves, Drawing, drawing-begin, drawing-next, drawing-stop, drawing-on, drawing-end, drawing-room}
-use Rattle.frames.specs.Stands.{Stands}
-use Rattle.rules.specs.Frames.{Frame as Names}
-use Rattle.rules.specs.Syntax.{Arg}
-use Rattle.rules.specs.Unfold.{Range}
-use Rattle.rules.specs.Values.{Env}
-use borrow.Author.Rules.{rules}
-use lib.ListN.{length}
-use mathlib.Core.List.{List}
-use mathlib.Core.Path.{◌≡◌, refl, sym, ap, ◌∙◌}
+use Rattle.frames.specs.Lists.{here-arg, Resolves, drawing-begin, drawing-next, drawing-stop, drawing-on, drawing-end, drawing-room}
+use mathlib.Core.Path.{refl, sym, ◌∙◌}
 use native.Mathlib.Omega.{arith}
 use Rattle.frames.proofs.arguments.Goals as goal
 
 pub loop-f-init : goal.loop-f-init
-loop-f-init c = drawing-begin h
+loop-f-init c ρ σ ins outs s h = drawing-begin h
 
 pub among-requires : goal.among-requires
 among-requires c = c.requires.written_args.here.listed.limit
@@ -29,7 +20,7 @@ argument-found-requires c =
 
 pub returns-in-Wrong : goal.returns-in-Wrong
 unfolding Finds Resolves
-returns-in-Wrong c =
+returns-in-Wrong c ρ σ ins outs s h =
     let d = c.loop-f.invariant ρ σ ins outs s h in
     let n = drawing-next d (sym c.among.ensures ∙ c.loop-f-test.true) in
     drawing-stop d n (rw c.in-Wrong.is at (c.argument-found.ensures.finds ρ σ _ _ s (here-arg n.sound n.alone)))
@@ -68,11 +59,11 @@ loop-f-smaller c =
 
 pub loop-f-preserved : goal.loop-f-preserved
 unfolding Finds Fits
-loop-f-preserved c =
+loop-f-preserved c ρ σ ins outs s h =
     let d = c.loop-f.invariant ρ σ ins outs s h in
     let n = drawing-next d (sym c.among.ensures ∙ c.loop-f-test.true) in
     let q = rw c.in-At.is at (c.argument-found.ensures.finds ρ σ _ _ s (here-arg n.sound n.alone)) in
     drawing-on d n q.0 (rw c.in-At.is at c.argument-found.ensures.fits) q.1 c.keep_wire.ensures c.keep_wire-in-At.ensures refl
 
 pub returns : goal.returns
-returns c = drawing-end (c.loop-f.invariant ρ σ ins outs s h) (sym c.among.ensures ∙ c.loop-f-test.false)
+returns c ρ σ ins outs s h = drawing-end (c.loop-f.invariant ρ σ ins outs s h) (sym c.among.ensures ∙ c.loop-f-test.false)

@@ -1,19 +1,11 @@
-use Prim.Native.Nat.{ℕ, ◌+◌, ◌-◌, ◌≤◌}
-use Rattle.frames.specs.Fresh.{Filled, HereDecls, Declares, Declaring, some-state, filled-full, name-place, declaring-begin, declaring-next, declaring-refused, declaring-full, declaring-on, declaring-end}
+use Rattle.frames.specs.Fresh.{Declares, some-state, filled-full, name-place, declaring-begin, declaring-next, declaring-refused, declaring-full, declaring-on, declaring-end}
 use Rattle.frames.specs.Lists.{knows-itself}
 use Rattle.frames.specs.Ports.{here-sort}
-use Rattle.frames.specs.Stands.{Knows, shape-knows}
-use Rattle.rules.specs.Frames.{Frame as Names}
-use Rattle.rules.specs.Syntax.{Decl}
-use Rattle.rules.specs.Unfold.{Range, State}
-use Rattle.rules.specs.Values.{Env, shape, generics}
-use Rattle.tape.specs.Encoding.{sort_w, decl_w}
+use Rattle.frames.specs.Stands.{shape-knows}
+use Rattle.tape.specs.Encoding.{decl_w}
 use Rattle.values.specs.Sizes.{Sizes}
 use borrow.Author.Rules.{rules}
-use lib.IntN.{ℤ}
-use lib.ListN.{length}
-use mathlib.Core.List.{List}
-use mathlib.Core.Path.{◌≡◌, refl, sym, ap, ◌∙◌}
+use mathlib.Core.Path.{refl, sym, ◌∙◌}
 use mir.Facts.{to_z-of_z}
 use mir.Syntax.{w32}
 use mir.Val.{SFits}
@@ -21,7 +13,7 @@ use native.Mathlib.Omega.{arith}
 use Rattle.frames.proofs.declare.Goals as goal
 
 pub loop-place-init : goal.loop-place-init
-loop-place-init c = declaring-begin h e c.requires.to_bound.1 f
+loop-place-init c ρ ds σ s K h f e = declaring-begin h e c.requires.to_bound.1 f
 
 pub among-requires : goal.among-requires
 among-requires c = c.requires.written_decls.here.listed.limit
@@ -52,7 +44,7 @@ measure-size-requires c =
 
 pub returns-in-Wrong : goal.returns-in-Wrong
 unfolding Sizes Declares
-returns-in-Wrong c =
+returns-in-Wrong c ρ ds σ s K h f e =
     let d = c.loop-place.invariant ρ ds σ s K h f e in
     let n = declaring-next d (sym c.among.ensures ∙ c.loop-place-test.true) in
     declaring-refused d n (sym (shape-knows _ K n.sound.sort) ∙ rw c.in-Wrong.is at (c.measure-size.ensures _ _ _ (here-sort n.sound n.alone))) (rw c.value_of-place.ensures (name-place n))
@@ -66,7 +58,7 @@ overflow_sub-next_wire c =
 
 pub returns-then-count-next_wire : goal.returns-then-count-next_wire
 unfolding Sizes Declares
-returns-then-count-next_wire c =
+returns-then-count-next_wire c ρ ds σ s K h f e =
     let d = c.loop-place.invariant ρ ds σ s K h f e in
     let n = declaring-next d (sym c.among.ensures ∙ c.loop-place-test.true) in
     let q = rw c.in-Wires.is at (c.measure-size.ensures _ _ _ (here-sort n.sound n.alone)) in
@@ -115,7 +107,7 @@ loop-place-smaller c =
 
 pub loop-place-preserved : goal.loop-place-preserved
 unfolding Sizes decl_w
-loop-place-preserved c =
+loop-place-preserved c ρ ds σ s K h f e =
     let d = c.loop-place.invariant ρ ds σ s K h f e in
     let n = declaring-next d (sym c.among.ensures ∙ c.loop-place-test.true) in
     let q = rw c.in-Wires.is at (c.measure-size.ensures _ _ _ (here-sort n.sound n.alone)) in
@@ -123,4 +115,4 @@ loop-place-preserved c =
     declaring-on d n (sym (shape-knows _ K n.sound.sort) ∙ q.0) (omega (arith, d.wires, c.if-count-next_wire.false)) q.1 c.keep_wire.ensures c.keep_wire-in-Wires.ensures (rw (to_z-of_z x) at c.keep_value.ensures) refl refl
 
 pub returns : goal.returns
-returns c = declaring-end (c.loop-place.invariant ρ ds σ s K h f e) (sym c.among.ensures ∙ c.loop-place-test.false)
+returns c ρ ds σ s K h f e = declaring-end (c.loop-place.invariant ρ ds σ s K h f e) (sym c.among.ensures ∙ c.loop-place-test.false)

@@ -1,17 +1,11 @@
-use Prim.Native.Nat.{ℕ, ◌+◌, ◌-◌}
 use Rattle.frames.specs.Laid.{laid, laid-length}
-use Rattle.frames.specs.Lists.{value_w, starts-values, here_of, runs-evals, HereValues, Gathers, knows-itself, stored}
-use Rattle.frames.specs.Runs.{Going, begin, next, stop, onward, finish, room}
-use Rattle.frames.specs.Stands.{Knows, eval-knows}
-use Rattle.rules.specs.Syntax.{Exp}
-use Rattle.rules.specs.Values.{Env, eval, generics}
-use Rattle.values.specs.Factors.{Grouped}
+use Rattle.frames.specs.Lists.{starts-values, here_of, runs-evals, Gathers, knows-itself, stored}
+use Rattle.frames.specs.Runs.{begin, next, stop, onward, finish, room}
+use Rattle.frames.specs.Stands.{eval-knows}
 use Rattle.values.specs.Here.{Says}
 use borrow.Author.Rules.{rules}
-use lib.IntN.{ℤ}
-use lib.ListN.{length}
-use mathlib.Core.List.{List, [], ◌∷◌, ◌++◌, map}
-use mathlib.Core.Path.{◌≡◌, refl, sym, ap, ◌∙◌}
+use mathlib.Core.List.{[], ◌∷◌, ◌++◌}
+use mathlib.Core.Path.{refl, sym, ◌∙◌}
 use mir.Facts.{to_z-of_z}
 use mir.Syntax.{w32}
 use mir.Val.{SFits}
@@ -20,7 +14,7 @@ use Rattle.frames.proofs.evaluate.Goals as goal
 
 pub loop-v-init : goal.loop-v-init
 unfolding laid
-loop-v-init c = ([], begin h.listed h.grouped, refl)
+loop-v-init c ρ es K h = ([], begin h.listed h.grouped, refl)
 
 pub among-requires : goal.among-requires
 among-requires c = c.requires.written_values.here.listed.limit
@@ -33,7 +27,7 @@ eval-v-requires c =
 
 pub returns-in_default : goal.returns-in_default
 unfolding Says Gathers
-returns-in_default c =
+returns-in_default c ρ es K h =
     let g = (c.loop-v.invariant ρ es K h).1 in
     let n = next starts-values g (sym c.among.ensures ∙ c.loop-v-test.true) in
     sym (runs-evals ρ es) ∙ stop starts-values g n (sym (eval-knows 2 n.item K n.sound) ∙ rw c.in_default.is at (c.eval-v.ensures n.item (here_of n.sound n.alone)))
@@ -57,7 +51,7 @@ loop-v-smaller c =
 
 pub loop-v-preserved : goal.loop-v-preserved
 unfolding Says
-loop-v-preserved c =
+loop-v-preserved c ρ es K h =
     let (found, g, u) = c.loop-v.invariant ρ es K h in
     let n = next starts-values g (sym c.among.ensures ∙ c.loop-v-test.true) in
     let s = rw c.in-At.is at (c.eval-v.ensures n.item (here_of n.sound n.alone)) in
@@ -66,7 +60,7 @@ loop-v-preserved c =
 
 pub returns : goal.returns
 unfolding Gathers
-returns c =
+returns c ρ es K h =
     let (found, g, u) = c.loop-v.invariant ρ es K h in
     let f = finish starts-values g (sym c.among.ensures ∙ c.loop-v-test.false) in
     (found, sym (runs-evals ρ es) ∙ f.0, f.1, omega (arith, g.count), u)

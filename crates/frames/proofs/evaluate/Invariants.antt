@@ -1,21 +1,14 @@
-use Prim.Native.Nat.{ℕ, ◌+◌, ◌-◌}
-use Rattle.frames.specs.Laid.{laid, laid-length}
-use Rattle.frames.specs.Lists.{value_w, starts-values, here_of, runs-evals, HereValues, Gathers, knows-itself, stored}
-use Rattle.frames.specs.Runs.{Going, begin, next, stop, onward, finish, room}
-use Rattle.frames.specs.Stands.{Knows, eval-knows}
+use Prim.Native.Nat.{ℕ, ◌-◌}
+use Rattle.frames.specs.Laid.{laid}
+use Rattle.frames.specs.Lists.{value_w, HereValues}
+use Rattle.frames.specs.Runs.{Going}
+use Rattle.frames.specs.Stands.{Knows}
 use Rattle.rules.specs.Syntax.{Exp}
-use Rattle.rules.specs.Values.{Env, eval, generics}
+use Rattle.rules.specs.Values.{Env, eval}
 use Rattle.values.specs.Factors.{Grouped}
-use Rattle.values.specs.Here.{Says}
-use borrow.Author.Rules.{rules}
 use lib.IntN.{ℤ}
-use lib.ListN.{length}
-use mathlib.Core.List.{List, [], ◌∷◌, ◌++◌, map}
-use mathlib.Core.Path.{◌≡◌, refl, sym, ap, ◌∙◌}
-use mir.Facts.{to_z-of_z}
-use mir.Syntax.{w32}
-use mir.Val.{SFits}
-use native.Mathlib.Omega.{arith}
+use mathlib.Core.List.{List, map}
+use mathlib.Core.Path.{◌≡◌}
 use Rattle.frames.proofs.evaluate.Given as goal
 
 abbrev pub invariant-loop-v : goal.invariant-loop-v

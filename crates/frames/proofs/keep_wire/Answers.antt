@@ -1,7 +1,6 @@
 use lib.Seq.{set_out}
 use mathlib.Core.Path.{sym}
 use native.Mathlib.Omega.{arith}
-use borrow.Author.Rules.{rules}
 use Rattle.frames.proofs.keep_wire.Goals as goal
 
 pub returns-else-k-lt48 : goal.returns-else-k-lt48

@@ -1,16 +1,11 @@
-use Prim.Native.Nat.{ℕ, ◌+◌, ◌-◌}
 use Rattle.frames.specs.Laid.{laid-length}
 use Rattle.frames.specs.Lists.{Gathers, knows-itself}
-use Rattle.frames.specs.Ports.{Port, HerePorts, Offered, here-sort, Tying, tying-begin, tying-next, tying-given, tying-place, tying-refused, tying-apart, tying-on, tying-end, tying-room}
-use Rattle.frames.specs.Stands.{Knows, shape-knows}
-use Rattle.rules.specs.Values.{Env, shape, generics}
-use Rattle.tape.specs.Encoding.{sort_w, decl_w}
+use Rattle.frames.specs.Ports.{here-sort, tying-begin, tying-next, tying-place, tying-refused, tying-apart, tying-on, tying-end}
+use Rattle.frames.specs.Stands.{shape-knows}
+use Rattle.tape.specs.Encoding.{decl_w}
 use Rattle.values.specs.Sizes.{Sizes}
 use borrow.Author.Rules.{rules}
-use lib.IntN.{ℤ}
-use lib.ListN.{length}
-use mathlib.Core.List.{List}
-use mathlib.Core.Path.{◌≡◌, refl, sym, ap, ◌∙◌}
+use mathlib.Core.Path.{refl, sym, ◌∙◌}
 use mir.Facts.{to_z-of_z}
 use mir.Syntax.{w32}
 use mir.Val.{SFits}
@@ -18,7 +13,7 @@ use native.Mathlib.Omega.{arith}
 use Rattle.frames.proofs.tie.Goals as goal
 
 pub loop-size-init : goal.loop-size-init
-loop-size-init c = tying-begin h o
+loop-size-init c ρ xs K h o = tying-begin h o
 
 pub among-requires : goal.among-requires
 among-requires c = c.requires.written_ports.here.listed.limit
@@ -32,7 +27,7 @@ measure-size-requires c =
 
 pub returns-in-Wrong : goal.returns-in-Wrong
 unfolding Sizes Gathers
-returns-in-Wrong c =
+returns-in-Wrong c ρ xs K h o =
     let d = c.loop-size.invariant ρ xs K h o in
     let n = tying-next d (sym c.among.ensures ∙ c.loop-size-test.true) in
     tying-refused d n (sym (shape-knows _ K n.sound.decl.sort) ∙ rw c.in-Wrong.is at (c.measure-size.ensures _ _ _ (here-sort n.sound.decl n.alone)))
@@ -52,11 +47,11 @@ bounds-len-k c =
 
 pub returns-then-wide-count : goal.returns-then-wide-count
 unfolding Sizes Gathers
-returns-then-wide-count c =
+returns-then-wide-count c ρ xs K h o =
     let d = c.loop-size.invariant ρ xs K h o in
     let n = tying-next d (sym c.among.ensures ∙ c.loop-size-test.true) in
     let q = rw c.in-Wires.is at (c.measure-size.ensures _ _ _ (here-sort n.sound.decl n.alone)) in
-    tying-apart d n (sym (shape-knows _ K n.sound.decl.sort) ∙ q.0) (λ e. c.if-wide-count.true (c.wide.ensures.0 ∙ sym e))
+    tying-apart d n (sym (shape-knows _ K n.sound.decl.sort) ∙ q.0) (λ e. absurd (omega (arith, c.if-wide-count.true, c.wide.ensures.0, e)))
 
 pub keep_value-requires : goal.keep_value-requires
 keep_value-requires c =
@@ -82,12 +77,12 @@ loop-size-smaller c =
 
 pub loop-size-preserved : goal.loop-size-preserved
 unfolding Sizes decl_w
-loop-size-preserved c =
+loop-size-preserved c ρ xs K h o =
     let d = c.loop-size.invariant ρ xs K h o in
     let n = tying-next d (sym c.among.ensures ∙ c.loop-size-test.true) in
     let q = rw c.in-Wires.is at (c.measure-size.ensures _ _ _ (here-sort n.sound.decl n.alone)) in
     let x : SFits w32 c.in-Wires.lowest = search rules in
-    tying-on d n (sym (shape-knows _ K n.sound.decl.sort) ∙ q.0) (sym c.if-wide-count.false ∙ c.wide.ensures.0) q.1 (rw (to_z-of_z x) at c.keep_value.ensures) refl
+    tying-on d n (sym (shape-knows _ K n.sound.decl.sort) ∙ q.0) (omega (arith, c.if-wide-count.false, c.wide.ensures.0)) q.1 (rw (to_z-of_z x) at c.keep_value.ensures) refl
 
 pub returns : goal.returns
-returns c = tying-end (c.loop-size.invariant ρ xs K h o) (sym c.among.ensures ∙ c.loop-size-test.false)
+returns c ρ xs K h o = tying-end (c.loop-size.invariant ρ xs K h o) (sym c.among.ensures ∙ c.loop-size-test.false)

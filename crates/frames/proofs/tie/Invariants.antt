@@ -1,20 +1,8 @@
-use Prim.Native.Nat.{ℕ, ◌+◌, ◌-◌}
-use Rattle.frames.specs.Laid.{laid-length}
-use Rattle.frames.specs.Lists.{Gathers, knows-itself}
-use Rattle.frames.specs.Ports.{Port, HerePorts, Offered, here-sort, Tying, tying-begin, tying-next, tying-given, tying-place, tying-refused, tying-apart, tying-on, tying-end, tying-room}
-use Rattle.frames.specs.Stands.{Knows, shape-knows}
-use Rattle.rules.specs.Values.{Env, shape, generics}
-use Rattle.tape.specs.Encoding.{sort_w, decl_w}
-use Rattle.values.specs.Sizes.{Sizes}
-use borrow.Author.Rules.{rules}
-use lib.IntN.{ℤ}
-use lib.ListN.{length}
+use Prim.Native.Nat.{◌-◌}
+use Rattle.frames.specs.Ports.{Port, HerePorts, Offered, Tying}
+use Rattle.frames.specs.Stands.{Knows}
+use Rattle.rules.specs.Values.{Env}
 use mathlib.Core.List.{List}
-use mathlib.Core.Path.{◌≡◌, refl, sym, ap, ◌∙◌}
-use mir.Facts.{to_z-of_z}
-use mir.Syntax.{w32}
-use mir.Val.{SFits}
-use native.Mathlib.Omega.{arith}
 use Rattle.frames.proofs.tie.Given as goal
 
 abbrev pub invariant-loop-size : goal.invariant-loop-size

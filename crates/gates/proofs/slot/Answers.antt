@@ -1,7 +1,6 @@
 use Rattle.gates.specs.Shows.{slot_of}
 use Rattle.rules.specs.Text.{pick}
 use borrow.Author.Tests.{lt-ltb, le-ltb}
-use borrow.Author.Rules.{rules}
 use Rattle.gates.proofs.slot.Goals as goal
 
 pub returns-then-i-n : goal.returns-then-i-n

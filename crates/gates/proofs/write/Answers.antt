@@ -1,9 +1,8 @@
 use Prim.Native.Nat.{◌+◌, ◌*◌}
 use Rattle.frames.specs.Laid.{laid}
 use lib.ListN.{length-set}
-use mathlib.Core.Path.{◌≡◌, refl}
+use mathlib.Core.Path.{◌≡◌}
 use native.Mathlib.Omega.{arith}
-use borrow.Author.Rules.{rules}
 use Rattle.gates.proofs.write.Goals as goal
 
 pub bounds-net-at-2 : goal.bounds-net-at-2

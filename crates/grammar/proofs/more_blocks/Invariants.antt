@@ -1,10 +1,8 @@
 use Prim.Native.Nat.{◌+◌, ◌-◌, ◌*◌, ◌≤◌}
 use Rattle.grammar.specs.Rows.{blocks-row}
-use Rattle.marks.specs.Laws.Lists.{Listing, begun, wrong, last, item-off, onto}
-use borrow.Author.Rules.{rules}
+use Rattle.marks.specs.Laws.Lists.{Listing}
 use lib.ListN.{length}
-use mathlib.Core.Path.{◌≡◌, refl, sym, ◌∙◌}
-use native.Mathlib.Omega.{arith}
+use mathlib.Core.Path.{◌≡◌}
 use Rattle.grammar.proofs.more_blocks.Given as goal
 
 abbrev pub invariant-loop-j : goal.invariant-loop-j

@@ -1,5 +1,4 @@
 use Rattle.grammar.specs.Promise.{table-short, text-long, text-refused, text-stands}
-use borrow.Author.Rules.{rules}
 use lib.ListN.{replicate}
 use mathlib.Core.Path.{refl, ap, ◌∙◌}
 use native.Mathlib.Omega.{arith}
@@ -14,7 +13,7 @@ returns-then-text-gt16384 c = (text-long _ c.args.table.now c.if-table-lt16384.f
 pub returns-in_default : goal.returns-in_default
 returns-in_default c =
     let p = c.in_default.is in
-    rw p (text-refused _ c.args.table.now c.if-table-lt16384.false c.if-text-gt16384.false (rw p at c.blocks-r.ensures.gives), c.clear-in_default.ensures ∙ ap (λ n. replicate n 0) c.blocks-r.auto.1.0)
+    rw p (text-refused _ c.args.table.now c.if-table-lt16384.false c.if-text-gt16384.false (rw p at c.blocks-r.ensures.gives), c.clear-in_default.ensures ∙ ap (λ n. replicate n 0) c.blocks-r.auto.tape)
 
 pub returns : goal.returns
 returns c =

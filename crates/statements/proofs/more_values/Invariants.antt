@@ -1,10 +1,8 @@
-use Prim.Native.Nat.{ℕ, suc, ◌+◌, ◌-◌, ◌*◌, ◌≤◌}
-use Rattle.marks.specs.Laws.Lists.{Listing, begun, wrong, last, item-off, on}
+use Prim.Native.Nat.{ℕ, ◌+◌, ◌-◌, ◌*◌, ◌≤◌}
+use Rattle.marks.specs.Laws.Lists.{Listing}
 use Rattle.statements.specs.Rows.{values-row}
-use borrow.Author.Rules.{rules}
 use lib.ListN.{length}
-use mathlib.Core.Path.{◌≡◌, refl, sym, ◌∙◌}
-use native.Mathlib.Omega.{arith}
+use mathlib.Core.Path.{◌≡◌}
 use Rattle.statements.proofs.more_values.Given as goal
 
 abbrev pub invariant-loop-k : goal.invariant-loop-k

@@ -1,18 +1,17 @@
-use Prim.Native.Nat.{ℕ, ◌<◌}
+use Prim.Native.Nat.{ℕ}
 use Rattle.frames.specs.Lists.{base_r}
 use Rattle.gates.specs.Shows.{Gives}
 use Rattle.unfold.specs.Adding.{gate-ends, gate-many, gate-out, added_is, added-first}
 use Rattle.unfold.specs.Entering.{Collects}
 use lib.IntN.{pos}
-use lib.ListN.{length, length-replicate}
+use lib.ListN.{length-replicate}
 use mathlib.Core.List.{map}
-use mathlib.Core.Path.{◌≡◌, refl, sym, ap, ◌∙◌}
+use mathlib.Core.Path.{refl}
 use native.Mathlib.Omega.{arith}
-use borrow.Author.Rules.{rules}
 use Rattle.unfold.proofs.add.Goals as goal
 
 pub gather-found-requires : goal.gather-found-requires
-gather-found-requires c = (c.requires.written_gate.call, (omega arith, length-replicate 48 (pos 0), length-replicate {A = ℕ} 48 0, length-replicate {A = ℕ} 48 0))
+gather-found-requires c = record { written_call = c.requires.written_gate.call; to_bound = (omega arith, length-replicate 48 (pos 0), length-replicate {A = ℕ} 48 0, length-replicate {A = ℕ} 48 0) }
 
 pub emit-requires : goal.emit-requires
 unfolding Collects
@@ -23,10 +22,13 @@ emit-requires c =
 
 pub returns-in-Wrong : goal.returns-in-Wrong
 unfolding Collects Gives
-returns-in-Wrong c = record { gives = (λ ρ σ gs ins outs v S h f w. added-first _ _ ρ σ gs _ v (rw c.in-Wrong.is at (c.gather-found.ensures ρ σ gs ins outs S h))); net_len_unchanged = refl; }
+returns-in-Wrong c = record { gives = (λ ρ σ gs ins outs v S h f w. added-first _ _ ρ σ gs _ v (rw c.in-Wrong.is at (c.gather-found.ensures ρ σ gs ins outs S h))); net_len_unchanged = refl }
 
 pub returns-in-Done : goal.returns-in-Done
 unfolding Collects
-returns-in-Done c = record { gives = (λ ρ σ gs ins outs v S h f w.
+returns-in-Done c = record {
+  gives = (λ ρ σ gs ins outs v S h f w.
       let g = rw c.in-Done.is at (c.gather-found.ensures ρ σ gs ins outs S h) in
-      rw (added_is g f _ v, ← (c.gate_on-gate.ensures (map base_r g.wires) (gate-ends g f) (gate-many g f))) (c.emit.ensures.gives v w)); net_len_unchanged = c.emit.ensures.net_len_unchanged; }
+      rw (added_is g f _ v, ← (c.gate_on-gate.ensures (map base_r g.wires) (gate-ends g f) (gate-many g f))) (c.emit.ensures.gives v w));
+  net_len_unchanged = c.emit.ensures.net_len_unchanged;
+}

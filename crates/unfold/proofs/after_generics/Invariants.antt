@@ -1,15 +1,11 @@
 use Prim.Native.Nat.{ℕ, ◌+◌, ◌-◌, ◌<◌}
-use Rattle.frames.specs.Runs.{Going, begin, next, onward, finish}
+use Rattle.frames.specs.Runs.{Going}
 use Rattle.rules.specs.Outcome.{ok}
 use Rattle.rules.specs.Syntax.{Name, Block, Callee}
 use Rattle.tape.specs.Encoding.{generic_w}
 use Rattle.tape.specs.Layout.{name_w}
-use Rattle.unfold.specs.Header.{HereBlock, here-generics, starts-generics, generics-many}
-use borrow.Author.Rules.{rules}
-use lib.ListN.{length}
-use mathlib.Core.List.{List, [], ◌∷◌, ◌++◌}
-use mathlib.Core.Path.{◌≡◌, refl, sym, ap, ◌∙◌}
-use native.Mathlib.Omega.{arith}
+use Rattle.unfold.specs.Header.{HereBlock}
+use mathlib.Core.List.{List}
 use Rattle.unfold.proofs.after_generics.Given as goal
 
 abbrev pub invariant-loop-i : goal.invariant-loop-i

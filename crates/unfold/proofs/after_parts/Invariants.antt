@@ -1,10 +1,6 @@
-use Prim.Native.Nat.{ℕ, ◌+◌, ◌-◌}
-use Rattle.unfold.specs.Quiet.{Calm, Ahead, ahead-begin, ahead-end, ahead-on}
-use borrow.Author.Rules.{rules}
+use Prim.Native.Nat.{ℕ, ◌-◌}
+use Rattle.unfold.specs.Quiet.{Calm, Ahead}
 use mathlib.Core.List.{List}
-use mathlib.Core.Logic.{inl, inr}
-use mathlib.Core.Path.{◌≡◌, refl, sym, ap, ◌∙◌}
-use native.Mathlib.Omega.{arith}
 use Rattle.unfold.proofs.after_parts.Given as goal
 
 abbrev pub invariant-loop-i : goal.invariant-loop-i

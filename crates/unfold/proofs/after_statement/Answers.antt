@@ -1,7 +1,5 @@
-use mathlib.Core.Path.{◌≡◌, sym, ◌∙◌}
+use mathlib.Core.Path.{sym, ◌∙◌}
 use native.Mathlib.Omega.{arith}
-use borrow.Author.Rules.{rules}
-use borrow.Author.Tests.{not-true, not-false}
 use Rattle.unfold.specs.Onward.{onward, beyond, calm_of}
 use Rattle.unfold.proofs.after_statement.Goals as goal
 
@@ -21,9 +19,9 @@ after_body-requires c =
     (omega (arith, l, w.here.limit), omega (arith, l, w.here.short))
 
 pub returns-then-among : goal.returns-then-among
-returns-then-among c =
+returns-then-among c len b h s =
     let r = beyond len b h s c.after_parts-i.ensures (sym c.among.ensures ∙ c.if-among.true) in
     rw c.after_body.ensures (r.1, r.2)
 
 pub returns : goal.returns
-returns c = onward len b h s c.after_parts-i.ensures (sym c.among.ensures ∙ c.if-among.false)
+returns c len b h s = onward len b h s c.after_parts-i.ensures (sym c.among.ensures ∙ c.if-among.false)

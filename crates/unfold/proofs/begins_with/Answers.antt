@@ -1,6 +1,5 @@
-use mathlib.Core.Path.{◌≡◌, sym, ◌∙◌}
+use mathlib.Core.Path.{sym, ◌∙◌}
 use native.Mathlib.Omega.{arith}
-use borrow.Author.Rules.{rules}
 use Rattle.unfold.specs.Onward.{head-loop, head-gate, head-block, index-room}
 use Rattle.unfold.proofs.begins_with.Goals as goal
 
@@ -16,15 +15,15 @@ bounds-tape-at-then-kind_of-eq-LOOP c =
     index-room w.text w.statements w.here w.some (sym c.kind_of.ensures ∙ c.if-kind_of-eq-LOOP.true)
 
 pub returns-then-kind_of-eq-LOOP : goal.returns-then-kind_of-eq-LOOP
-returns-then-kind_of-eq-LOOP c =
+returns-then-kind_of-eq-LOOP c len b h s =
     rw (c.value_of.ensures, c.value_of-value.ensures) (head-loop len b h s (sym c.kind_of.ensures ∙ c.if-kind_of-eq-LOOP.true))
 
 pub returns-then-meant-lt10 : goal.returns-then-meant-lt10
-returns-then-meant-lt10 c =
+returns-then-meant-lt10 c len b h s =
     let v = c.value_of-value.ensures in
     rw (c.narrow.ensures, v) (head-gate len b h s (λ e. c.if-kind_of-eq-LOOP.false (c.kind_of.ensures ∙ e)) (omega (arith, c.if-meant-lt10.true, v)))
 
 pub returns : goal.returns
-returns c =
+returns c len b h s =
     let v = c.value_of-value.ensures in
     rw v (head-block len b h s (λ e. c.if-kind_of-eq-LOOP.false (c.kind_of.ensures ∙ e)) (omega (arith, c.if-meant-lt10.false, v)))

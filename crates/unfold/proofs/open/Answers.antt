@@ -1,15 +1,13 @@
-use Prim.Native.Nat.{ℕ, ◌+◌, ◌-◌}
+use Prim.Native.Nat.{ℕ, ◌+◌}
 use Rattle.frames.specs.Fresh.{some-state}
-use Rattle.frames.specs.Stands.{Knows, knows-generics}
 use Rattle.tape.specs.Layout.{value_of}
 use Rattle.unfold.specs.Entering.{Collects, Enters}
 use Rattle.unfold.specs.Header.{body-many, body-room}
 use Rattle.unfold.specs.Opening.{Opens, offers-of, opened-first, opened-then, opened-ok, frame-stands, known_of}
-use lib.IntN.{ℤ, pos}
-use lib.ListN.{length, get_or, length-replicate, replicate}
-use mathlib.Core.Path.{◌≡◌, refl, sym, ap, ◌∙◌}
+use lib.IntN.{pos}
+use lib.ListN.{get_or, length-replicate}
+use mathlib.Core.Path.{refl, ap, ◌∙◌}
 use native.Mathlib.Omega.{arith}
-use borrow.Author.Rules.{rules}
 use Rattle.unfold.proofs.open.Goals as goal
 
 pub after_generics-requires : goal.after_generics-requires
@@ -24,7 +22,7 @@ overflow_sub-to-2 c = let e = (c.after_generics.ensures _ c.requires.written_ope
 pub gather-found-requires : goal.gather-found-requires
 gather-found-requires c =
     let e = (c.after_generics.ensures _ c.requires.written_open.here).1 in
-    (c.requires.written_open.call, (omega (arith, e, c.requires.written_open.here.few), length-replicate 48 (pos 0), length-replicate {A = ℕ} 48 0, length-replicate {A = ℕ} 48 0))
+    record { written_call = c.requires.written_open.call; to_bound = (omega (arith, e, c.requires.written_open.here.few), length-replicate 48 (pos 0), length-replicate {A = ℕ} 48 0, length-replicate {A = ℕ} 48 0) }
 
 pub enter-fresh-requires : goal.enter-fresh-requires
 unfolding Collects
@@ -32,7 +30,7 @@ enter-fresh-requires c =
     let p = c.requires.written_open in
     let e = (c.after_generics.ensures _ p.here).1 in
     let g = rw c.in-Done.is at (c.gather-found.ensures _ _ _ _ _ p.call.stands p.call.here) in
-    (record { block = p.block; wires = g.wires; here = p.here; offers = offers-of p.block g (omega (arith, e)) p.many }, c.requires.wires_bound)
+    record { written_header = record { block = p.block; wires = g.wires; here = p.here; offers = offers-of p.block g (omega (arith, e)) p.many }; wires_bound = c.requires.wires_bound }
 
 pub overflow_add-result : goal.overflow_add-result
 unfolding Collects Enters
@@ -56,11 +54,11 @@ after_body-requires c =
 
 pub returns-in-Wrong : goal.returns-in-Wrong
 unfolding Collects Opens
-returns-in-Wrong c = (0, opened-first ρ σ gs _ B s (rw c.in-Wrong.is at (c.gather-found.ensures ρ σ gs ins outs S h)))
+returns-in-Wrong c ρ σ gs ins outs B s S h b n w = (0, opened-first ρ σ gs _ B s (rw c.in-Wrong.is at (c.gather-found.ensures ρ σ gs ins outs S h)))
 
 pub returns-in-Wrong-fresh : goal.returns-in-Wrong-fresh
 unfolding Collects Enters Opens
-returns-in-Wrong-fresh c =
+returns-in-Wrong-fresh c ρ σ gs ins outs B s S h b n w =
     let e = (c.after_generics.ensures B b).1 in
     let g = rw c.in-Done.is at (c.gather-found.ensures ρ σ gs ins outs S h) in
     let (p, f) = rw c.in-Wrong-fresh.is at (c.enter-fresh.ensures _ B g.wires s (known_of g.values g.stored) b (offers-of B g (omega (arith, e)) n) w) in
@@ -68,7 +66,7 @@ returns-in-Wrong-fresh c =
 
 pub returns-in-Done-fresh : goal.returns-in-Done-fresh
 unfolding Collects Enters Opens
-returns-in-Done-fresh c =
+returns-in-Done-fresh c ρ σ gs ins outs B s S h b n w =
     let e = (c.after_generics.ensures B b).1 in
     let g = rw c.in-Done.is at (c.gather-found.ensures ρ σ gs ins outs S h) in
     let o = offers-of B g (omega (arith, e)) n in
