@@ -14,16 +14,16 @@ flatten_read-requires c =
     (was_read (read_right _ _ _ c.in-Done.is c.read_program-read.ensures), c.requires, c.if-netlist-lt5124.false)
 
 pub shape_of-work-in-No : goal.shape_of-work-in-No
-shape_of-work-in-No c = c.read_program-read.auto.1.0
+shape_of-work-in-No c = c.read_program-read.auto.table
 
 pub returns-in-No : goal.returns-in-No
 returns-in-No c = rw c.refused-in-No.ensures (flatten-is _ _ _ _ (read_no _ _ _ _ c.if-netlist-lt5124.false c.in-No.is c.read_program-read.ensures) (refused-is _ c.requires refl))
 
 pub shape_of-work-in-Done : goal.shape_of-work-in-Done
-shape_of-work-in-Done c = c.flatten_read.auto.1.0 ∙ c.read_program-read.auto.1.0
+shape_of-work-in-Done c = c.flatten_read.auto.work ∙ c.read_program-read.auto.table
 
 pub shape_of-netlist : goal.shape_of-netlist
-shape_of-netlist c = c.flatten_read.auto.1.1.1.0
+shape_of-netlist c = c.flatten_read.auto.netlist
 
 pub returns-in-Done : goal.returns-in-Done
 returns-in-Done c =

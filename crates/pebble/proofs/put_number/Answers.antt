@@ -18,4 +18,4 @@ returns c =
     let k = c.decimal-k.result in
     let n = c.args.n in
     let put = c.copy.ensures in
-    record { put = put_is (c.decimal-k.ensures.1.1 ∙ fewest-decimal k n c.decimal-k.ensures.1.0) put; upper_bound = omega (arith, few at-decimal, c.decimal-k.ensures.0.1, put.next) }
+    record { put = put_is (c.decimal-k.ensures.1.1 ∙ fewest-decimal k n c.decimal-k.ensures.1.0) put; upper_bound = omega (arith, few at-decimal, c.decimal-k.ensures.0.1, put.next); }

@@ -8,18 +8,15 @@ use Rattle.pebble.proofs.put_refusal.Goals as goal
 pub returns : goal.returns
 unfolding refused_text joined
 returns c =
-    record {
-      put = put_then c.copy-a.ensures
+    record { put = put_then c.copy-a.ensures
           (put_then c.put_number-b.ensures.put
           (put_then c.copy-c.ensures
           (put_then c.put_number-d.ensures.put
-          (put_then c.copy.ensures put-none))));
-      upper_bound = omega (
+          (put_then c.copy.ensures put-none)))); upper_bound = omega (
         arith,
         c.copy-a.ensures.next,
         c.put_number-b.ensures.upper_bound,
         c.copy-c.ensures.next,
         c.put_number-d.ensures.upper_bound,
         c.copy.ensures.next,
-      );
-    }
+      ); }
