@@ -1,8 +1,7 @@
 -- What reading a text leaves is what resolving its names takes. Assumes nothing.
-use Rattle.std.specs.Prelude.{◌≡◌, refl, ℕ, ◌+◌, ◌≤◌, ◌<◌, List, ◌++◌, length, drop, get_or}
-use Rattle.std.proofs.Common.{sym, ap, ◌∙◌, subst, arith, length-append, leb→le}
-use Rattle.std.proofs.Math.ListN.{get_or-append}
-use Rattle.rules.specs.Outcome.{Out, ok, ◌>>=◌, need}
+use Rattle.std.specs.Prelude.{◌≡◌, ℕ, ◌≤◌, List, length, drop}
+use Rattle.std.proofs.Common.{sym, subst, arith, leb→le}
+use Rattle.rules.specs.Outcome.{ok}
 use Rattle.rules.specs.Syntax.{Spelled}
 use Rattle.rules.specs.Grammar.{grammar}
 use Rattle.rules.proofs.Laws.Outcomes.{inv, need-yes}

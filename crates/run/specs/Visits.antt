@@ -169,27 +169,33 @@ module _ (w : List ℕ) (wf : WellFormed w) (ins : List ℕ) (ok : Inputs w ins)
   all_known g low-none none = Rattle.rules.specs.Run.none
   all_known g (low-more {i} l ls) (more r rs) = Rattle.rules.specs.Run.more (g.sound i l r) (all_known g ls rs)
 
-  pub visited : {v : List ℕ} {j : ℕ} {u : List ℕ} {r : Bool} → 1536 ≤ length v → j < gates w → Going w ins v → Visit w v j r u → Going w ins u
-  visited l h g (stays s) = g
-  visited {v} {j} {u} l h g (settles t r) =
-      let f = wf.fine j h in
-      let o = (gate_at w j).out in
-      let m = makes (gate_at w j).kind (bits_at v (inputs_at (gate_at w j))) in
-      let k : Known w (map from_byte ins) o m = made j h refl (all_known g (fine-below (gate_at w j) f) r) refl in
-      let lo : o < length v = omega (arith, f.out, wf.few-wires) in
-      record {
-        input = λ i a. set_at v o _ i (λ (b : ℕ). b ≡ get_or ins i 0) lo (λ e. absurd (omega (arith, f.free))) (λ n. g.input i a);
-        bit = λ i a. set_at v o _ i (λ (b : ℕ). (b ≡ 2 → ⊥) → b < 2) lo (λ e n. byte-below m) (λ n. g.bit i a);
-        sound = λ i a. set_at v o _ i (λ (b : ℕ). (b ≡ 2 → ⊥) → Known w (map from_byte ins) i (from_byte b)) lo (λ e n. rw (e, from-to m) k) (λ n. g.sound i a);
-        rest = λ i a. set_at v o _ i (λ (b : ℕ). b ≡ 0) lo (λ e. absurd (omega (arith, f.out))) (λ n. g.rest i a);
-      }
+  pub visited : {v u : List ℕ} {j : ℕ} {r : Bool} → 1536 ≤ length v → j < gates w → Going w ins v → Visit w v j r u → Going w ins u
+  visited {v} {u} {j} {r} l h g s = go s
+    where
+      go : {u : List ℕ} {r : Bool} → Visit w v j r u → Going w ins u
+      go (stays s) = g
+      go (settles t r) =
+          let f = wf.fine j h in
+          let o = (gate_at w j).out in
+          let m = makes (gate_at w j).kind (bits_at v (inputs_at (gate_at w j))) in
+          let k : Known w (map from_byte ins) o m = made j h refl (all_known g (fine-below (gate_at w j) f) r) refl in
+          let lo : o < length v = omega (arith, f.out, wf.few-wires) in
+          record {
+            input = λ i a. set_at v o _ i (λ (b : ℕ). b ≡ get_or ins i 0) lo (λ e. absurd (omega (arith, f.free))) (λ n. g.input i a);
+            bit = λ i a. set_at v o _ i (λ (b : ℕ). (b ≡ 2 → ⊥) → b < 2) lo (λ e n. byte-below m) (λ n. g.bit i a);
+            sound = λ i a. set_at v o _ i (λ (b : ℕ). (b ≡ 2 → ⊥) → Known w (map from_byte ins) i (from_byte b)) lo (λ e n. rw (e, from-to m) k) (λ n. g.sound i a);
+            rest = λ i a. set_at v o _ i (λ (b : ℕ). b ≡ 0) lo (λ e. absurd (omega (arith, f.out))) (λ n. g.rest i a);
+          }
 
-  pub sweep-more : {v₀ v : List ℕ} {n : ℕ} {u : List ℕ} {c r : Bool} → 1536 ≤ length v → n < gates w → Sweep w v₀ n c v → Visit w v n r u → Sweep w v₀ (n + 1) (r || c) u
-  sweep-more l h (same f) (stays s) = same (below_more _ _ f s)
-  sweep-more l h (fewer f) (stays s) = fewer f
-  sweep-more {v₀} {v} {n} {u} {c} l h d (settles t r) =
-      let lo : (gate_at w n).out < length v = omega (arith, (wf.fine n h).out, wf.few-wires) in
-      fewer (less-twos w v₀ v n _ c d (set-twos v (gate_at w n).out _ lo t (byte-below _)))
+  pub sweep-more : {v₀ v u : List ℕ} {n : ℕ} {c r : Bool} → 1536 ≤ length v → n < gates w → Sweep w v₀ n c v → Visit w v n r u → Sweep w v₀ (n + 1) (r || c) u
+  sweep-more {v₀} {v} {u} {n} {c} {r} l h d s = go l d s
+    where
+      go : {v u : List ℕ} {c r : Bool} → 1536 ≤ length v → Sweep w v₀ n c v → Visit w v n r u → Sweep w v₀ (n + 1) (r || c) u
+      go l (same f) (stays s) = same (below_more _ _ f s)
+      go l (fewer f) (stays s) = fewer f
+      go {v} {u} {c} l d (settles t r) =
+          let lo : (gate_at w n).out < length v = omega (arith, (wf.fine n h).out, wf.few-wires) in
+          fewer (less-twos w v₀ v n _ c d (set-twos v (gate_at w n).out _ lo t (byte-below _)))
 
   -- ---- at the end
 

@@ -1,5 +1,4 @@
 use Rattle.sweep.proofs.Laws.Steps.{call-no, call_fits, call-bars}
-use borrow.Author.Rules.{rules}
 use Rattle.names.proofs.as_callee.Goals as goal
 
 pub returns-in_default : goal.returns-in_default

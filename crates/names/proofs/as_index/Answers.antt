@@ -1,5 +1,4 @@
 use Rattle.sweep.proofs.Laws.Steps.{index-unknown, index-bars, index-stands}
-use borrow.Author.Rules.{rules}
 use Rattle.names.proofs.as_index.Goals as goal
 
 pub returns-in_default : goal.returns-in_default

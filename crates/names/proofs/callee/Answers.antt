@@ -1,6 +1,5 @@
 use native.Mathlib.Omega.{arith}
 use Rattle.sweep.proofs.Laws.Steps.{callee-gate, callee-none, callee-block, below_all, seen_at}
-use borrow.Author.Rules.{rules}
 use Rattle.names.proofs.callee.Goals as goal
 
 pub returns-then-k-lt10 : goal.returns-then-k-lt10

@@ -1,8 +1,5 @@
-use mathlib.Core.Path.{◌≡◌, sym, ap}
-use Prim.Native.Nat.{◌≤◌}
-use lib.ListN.{set}
+use mathlib.Core.Path.{sym}
 use lib.Seq.{set_out}
-use borrow.Author.Rules.{rules}
 use Rattle.names.proofs.enter.Goals as goal
 
 pub returns-then-index-until : goal.returns-then-index-until

@@ -1,5 +1,4 @@
 use Rattle.sweep.proofs.Laws.Steps.{name-unknown, name-bars, name-stands}
-use borrow.Author.Rules.{rules}
 use Rattle.names.proofs.in_expression.Goals as goal
 
 pub returns-in_default : goal.returns-in_default

@@ -1,4 +1,3 @@
-use mathlib.Core.Bool.{◌||◌}
 use borrow.Author.Tests.{eq-eqb, ne_eqb}
 use Rattle.names.proofs.is_argument.Goals as goal
 

@@ -1,6 +1,5 @@
 use native.Mathlib.Omega.{arith}
 use Rattle.sweep.proofs.Laws.Gather.{main-missing, main-generic, main-plain}
-use borrow.Author.Rules.{rules}
 use Rattle.names.proofs.main_block.Goals as goal
 
 pub returns-in_default : goal.returns-in_default

@@ -1,6 +1,4 @@
-use mathlib.Core.Path.{◌≡◌, ap, ◌∙◌}
 use Rattle.sweep.proofs.Laws.Steps.{block-bars, block-begins}
-use borrow.Author.Rules.{rules}
 use Rattle.names.proofs.on_block.Goals as goal
 
 pub returns-then-taken : goal.returns-then-taken

@@ -1,7 +1,6 @@
-use mathlib.Core.Path.{◌≡◌, refl, ap, ◌∙◌}
+use mathlib.Core.Path.{refl, ◌∙◌}
 use native.Mathlib.Omega.{arith}
 use Rattle.sweep.proofs.Laws.Steps.{then-no, then-state, tells-done, tells-no, small-done}
-use borrow.Author.Rules.{rules}
 use Rattle.names.proofs.on_callee.Goals as goal
 
 pub overflow_add-place_of : goal.overflow_add-place_of

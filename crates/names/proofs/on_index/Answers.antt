@@ -1,7 +1,6 @@
-use mathlib.Core.Path.{◌≡◌, refl}
+use mathlib.Core.Path.{refl}
 use native.Mathlib.Omega.{arith}
 use Rattle.sweep.proofs.Laws.Steps.{then-no, then-state, tells-done, tells-no}
-use borrow.Author.Rules.{rules}
 use Rattle.names.proofs.on_index.Goals as goal
 
 pub with_value-requires : goal.with_value-requires

@@ -1,9 +1,4 @@
-use native.Mathlib.Omega.{arith}
-use mathlib.Core.Path.{◌≡◌, ap, ◌∙◌}
-use Prim.Native.Nat.{◌≤◌}
-use lib.ListN.{length}
 use Rattle.sweep.proofs.Laws.Whole.{lent_rows, lent-no, lent-main, row-64, row-48, tape-there}
-use borrow.Author.Rules.{rules}
 use Rattle.names.proofs.resolve_with.Goals as goal
 
 pub sweep_words-swept-requires : goal.sweep_words-swept-requires

@@ -1,10 +1,9 @@
-use Prim.Native.Nat.{◌+◌, ◌-◌, ◌≤◌, ◌<◌}
-use mathlib.Core.Path.{◌≡◌, refl, sym, ap, ◌∙◌}
+use Prim.Native.Nat.{◌+◌, ◌≤◌}
+use mathlib.Core.Path.{refl, ◌∙◌}
 use native.Mathlib.Omega.{arith}
-use lib.ListN.{length, get_or, set, take, drop, length-set}
-use Rattle.sweep.specs.Sweep.{state_of, start, turn, sweep, onto}
+use lib.ListN.{length, get_or, take, drop, length-set}
+use Rattle.sweep.specs.Sweep.{state_of, start, turn}
 use Rattle.sweep.proofs.Laws.Turns.{says-word, says-halt, halts, goes, goes_same, begins, finished, after-end}
-use borrow.Author.Rules.{rules}
 use Rattle.names.proofs.sweep_words.Goals as goal
 
 pub loop-at-init : goal.loop-at-init
@@ -12,9 +11,6 @@ loop-at-init c = (omega arith, refl, refl, refl, refl, begins c.args.text.now c.
 
 pub take_word-r-requires : goal.take_word-r-requires
 take_word-r-requires c = ((c.requires.0, c.requires.1, omega (arith, c.requires.2, c.loop-at.invariant.1), c.loop-at-test.true, omega (arith, c.requires.3, c.loop-at.invariant.2)))
-
-pub offset_bounds-tape-at : goal.offset_bounds-tape-at
-offset_bounds-tape-at c = record { fits = omega (arith, c.before.before.before.before.before.before.before.before.before.before.before.before.before.before.before.before.before.before.before.before.well-formed, c.requires.2, c.loop-at-test.true) }
 
 pub bounds-tape-at : goal.bounds-tape-at
 bounds-tape-at c = omega (arith, c.requires.2, c.loop-at.invariant.1, c.loop-at-test.true)
@@ -32,9 +28,6 @@ pub returns-in-Halt : goal.returns-in-Halt
 returns-in-Halt c =
     let i = c.loop-at.invariant in
     halts c.args.text.now c.args.heads.now c.args.firsts.now (take c.args.known c.args.titles.now) c.args.end c.loop-at.at (state_of c.loop-at.scope c.loop-at.until c.loop-at.spot) (start c.args.scope.now c.args.until.now) c.loop-at.tape c.args.tape.now i.1 (omega (arith, c.requires.2)) c.loop-at-test.true i.4 i.5 (says-halt (turn c.args.text.now c.args.heads.now c.args.firsts.now (take c.args.known c.args.titles.now) c.loop-at.at (state_of c.loop-at.scope c.loop-at.until c.loop-at.spot) (get_or c.loop-at.tape c.loop-at.at 0) (drop (c.loop-at.at + 1) (take c.args.end c.loop-at.tape))) _ _ c.take_word-r.ensures.says c.in-Halt.is)
-
-pub overflow_add-at : goal.overflow_add-at
-overflow_add-at c = record { fits = omega (arith, c.before.before.before.before.before.before.before.before.before.before.before.before.before.before.before.before.before.before.before.before.before.well-formed, c.requires.2, c.loop-at-test.true) }
 
 pub loop-at-smaller : goal.loop-at-smaller
 loop-at-smaller c = omega (arith, c.loop-at-test.true)

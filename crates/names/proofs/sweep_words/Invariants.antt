@@ -1,10 +1,7 @@
-use Prim.Native.Nat.{◌+◌, ◌-◌, ◌≤◌, ◌<◌}
-use mathlib.Core.Path.{◌≡◌, refl, sym, ap, ◌∙◌}
-use native.Mathlib.Omega.{arith}
-use lib.ListN.{length, get_or, set, take, drop, length-set}
-use Rattle.sweep.specs.Sweep.{state_of, start, turn, sweep, onto}
-use Rattle.sweep.proofs.Laws.Turns.{says-word, says-halt, halts, goes, goes_same, begins, finished, after-end}
-use borrow.Author.Rules.{rules}
+use Prim.Native.Nat.{◌-◌, ◌≤◌}
+use mathlib.Core.Path.{◌≡◌}
+use lib.ListN.{length, take, drop}
+use Rattle.sweep.specs.Sweep.{state_of, start, sweep, onto}
 use Rattle.names.proofs.sweep_words.Given as goal
 
 abbrev pub invariant-loop-at : goal.invariant-loop-at

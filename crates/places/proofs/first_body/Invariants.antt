@@ -1,9 +1,6 @@
-use Prim.Native.Nat.{ℕ, ◌-◌, ◌≤◌, ◌<◌}
-use mathlib.Core.Path.{sym, ◌∙◌}
-use native.Mathlib.Omega.{arith}
+use Prim.Native.Nat.{ℕ, ◌-◌, ◌≤◌}
 use lib.ListN.{length}
-use Rattle.places.specs.Bodies.{FirstBody, here, further}
-use borrow.Author.Rules.{rules}
+use Rattle.places.specs.Bodies.{FirstBody}
 use Rattle.places.proofs.first_body.Given as goal
 
 abbrev pub invariant-loop-i : goal.invariant-loop-i

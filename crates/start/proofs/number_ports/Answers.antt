@@ -9,7 +9,6 @@ use lib.ListN.{length}
 use mathlib.Core.List.{[]}
 use mathlib.Core.Path.{◌≡◌, refl}
 use native.Mathlib.Omega.{arith}
-use borrow.Author.Rules.{rules}
 use Rattle.start.proofs.number_ports.Goals as goal
 
 pub after_generics-at-requires : goal.after_generics-at-requires
@@ -27,7 +26,7 @@ declare-ins-requires c =
     let z = c.requires.base_value in
     let e = c.after_generics-at.ensures _ p.here in
     let q : c.after_generics-at.result - c.args.place - 1 ≡ length p.block.generics = omega (arith, e.1) in
-    (record { decls = p.block.inputs; names = blanks Wires p.block.generics; here = decls-in p.here e.0; filled = blank-filled p.block.generics q z.0 z.1 z.2 }, (omega (arith, q, p.here.few), omega arith))
+    record { written_decls = record { decls = p.block.inputs; names = blanks Wires p.block.generics; here = decls-in p.here e.0; filled = blank-filled p.block.generics q z.0 z.1 z.2 }; to_bound = (omega (arith, q, p.here.few), omega arith) }
 
 pub declare-outs-requires : goal.declare-outs-requires
 declare-outs-requires c =
@@ -37,11 +36,11 @@ declare-outs-requires c =
     let q : c.after_generics-at.result - c.args.place - 1 ≡ length p.block.generics = omega (arith, e.1) in
     let g = rw c.in-Done.is at (c.declare-ins.ensures (generics []) p.block.inputs (blanks Wires p.block.generics) (some-state 0) z.3 (decls-in p.here e.0) (blank-filled p.block.generics q z.0 z.1 z.2) refl) in
     let x = inputs-of p.here e.0 g in
-    (record { decls = p.block.outputs; names = x.names; here = decls-out p.here x.next; filled = x.filled }, (x.few, omega (arith, x.wires)))
+    record { written_decls = record { decls = p.block.outputs; names = x.names; here = decls-out p.here x.next; filled = x.filled }; to_bound = (x.few, omega (arith, x.wires)) }
 
 pub returns-in-Wrong : goal.returns-in-Wrong
 unfolding Declares Numbers
-returns-in-Wrong c =
+returns-in-Wrong c M h =
     let z = c.requires.base_value in
     let e = c.after_generics-at.ensures M h in
     let q : c.after_generics-at.result - c.args.place - 1 ≡ length M.generics = omega (arith, e.1) in
@@ -49,7 +48,7 @@ returns-in-Wrong c =
 
 pub returns-in-Wrong-outs : goal.returns-in-Wrong-outs
 unfolding Declares Numbers
-returns-in-Wrong-outs c =
+returns-in-Wrong-outs c M h =
     let z = c.requires.base_value in
     let e = c.after_generics-at.ensures M h in
     let q : c.after_generics-at.result - c.args.place - 1 ≡ length M.generics = omega (arith, e.1) in
@@ -59,7 +58,7 @@ returns-in-Wrong-outs c =
 
 pub returns-in-Done-outs : goal.returns-in-Done-outs
 unfolding Numbers
-returns-in-Done-outs c =
+returns-in-Done-outs c M h =
     let z = c.requires.base_value in
     let e = c.after_generics-at.ensures M h in
     let q : c.after_generics-at.result - c.args.place - 1 ≡ length M.generics = omega (arith, e.1) in
