@@ -1,21 +1,21 @@
 -- One call, of a primitive or of a block: what the code has in hand, and what its answers say. Assumes nothing.
-use Rattle.std.specs.Prelude.{◌≡◌, Bool, List, [], ◌∷◌, ◌++◌, map, length, get_or, replicate, ℤ}
+use Rattle.std.specs.Prelude.{◌≡◌, Bool, List, [], ◌∷◌, ◌++◌, map, length, get_or, replicate}
 use Rattle.std.proofs.Math.Path.{refl}
 use Rattle.std.proofs.Common.{sym, ap, ◌∙◌, subst, length-append}
 use Prim.Native.Nat.{ℕ, zero, suc, ◌+◌, ◌-◌, ◌≤◌, ◌<◌}
 use native.Mathlib.Omega.{arith}
 use Rattle.std.proofs.lemmas.List.{length-map}
 use Rattle.rules.specs.Names.{Role, a-wire, role_of}
-use Rattle.rules.specs.Outcome.{Out as Outcome, ok, refuse, ◌>>=◌, nth}
+use Rattle.rules.specs.Outcome.{ok, refuse, ◌>>=◌, nth}
 use Rattle.rules.specs.Primitives.{inputs_of}
 use Rattle.rules.specs.Syntax.{Exp, Arg, Stmts, end, call, Block, Callee, gate, block, Program}
 use Rattle.rules.specs.Values.{Env, generics}
 use Rattle.rules.specs.Frames.{Frame as Names}
 use Rattle.rules.specs.Unfold.{Range, State, unfolds, tick, emit, enter, deep}
-use Rattle.rules.proofs.Laws.Outcomes.{ok-inj, no_ok, inv}
+use Rattle.rules.proofs.Laws.Outcomes.{ok-inj, inv}
 use Rattle.rules.proofs.Laws.Order.{call-late, loop-late, block-deep}
 use Rattle.rules.proofs.Laws.Scoped.{ports_of, names_of, ArgsOk, Wanted, by-gate, by-block, StmtsOk}
-use Rattle.rules.proofs.Laws.Suits.{Suits, Sized, resolves-sized, ends-fit, entered-suits}
+use Rattle.rules.proofs.Laws.Suits.{Suits, resolves-sized, ends-fit, entered-suits}
 use Rattle.rules.proofs.Laws.Late.{nth-both}
 use Rattle.frames.specs.declared.Frame.{Frame}
 use Rattle.frames.specs.Stands.{Stands}
@@ -23,20 +23,19 @@ use Rattle.frames.specs.Fresh.{up_to}
 use Rattle.gates.specs.declared.Counts.{Counts}
 use Rattle.gates.specs.declared.Step.{Step}
 use Rattle.gates.specs.declared.Step.TheVariants.{Done as Went, Wrong as Stopped}
-use Rattle.gates.specs.Shows.{Shows, Gives}
+use Rattle.gates.specs.Shows.{Gives}
 use Rattle.unfold.specs.declared.Entry.{Entry}
 use Rattle.unfold.specs.declared.Entry.TheVariants.{Body, Wrong}
 use Rattle.unfold.specs.declared.Head.{Head}
 use Rattle.unfold.specs.declared.Head.TheVariants.{Gate, Block as Called, Loop}
-use Rattle.unfold.specs.Header.{HereBlock, body_w}
-use Rattle.unfold.specs.Entering.{HereCall, WrittenCall}
+use Rattle.unfold.specs.Header.{body_w}
+use Rattle.unfold.specs.Entering.{HereCall}
 use Rattle.unfold.specs.Opening.{opened, Open, Opens, WrittenOpen}
 use Rattle.unfold.specs.Adding.{added, Fits, WrittenGate}
 use Rattle.unfold.specs.Statements.{HereStmts, Named, call-here}
 use Rattle.unfold.specs.Onward.{alone, IsCall, IsLoop, Heads}
 use Rattle.unfold.specs.Scope.{named-of, many-of, named-both}
-use Rattle.unfold.specs.Steps.{Opened, opened-parts, Added, added-parts, block-opened, block_refused, gate-added, gate-refused}
-use Rattle.unfold.specs.Shelf.{Shelf}
+use Rattle.unfold.specs.Steps.{opened-parts, added-parts, block-opened, block_refused, gate-added, gate-refused}
 use Rattle.cycle.specs.declared.Out.{Out}
 use Rattle.cycle.specs.declared.Out.TheVariants.{Done, No}
 use Rattle.cycle.specs.Task.{Task, Ready, Answers, then-end, at-end}

@@ -1,5 +1,5 @@
 -- A loop and its rounds: what the code has in hand, and what its answers say. Assumes nothing.
-use Rattle.std.specs.Prelude.{◌≡◌, refl, ℕ, zero, suc, ◌+◌, ◌-◌, ◌≤◌, ◌<◌, Bool, List, [], ◌∷◌, ◌++◌, map, length, get_or, ℤ, nat_abs, ◌-ℤ◌}
+use Rattle.std.specs.Prelude.{◌≡◌, refl, ℕ, suc, ◌+◌, ◌-◌, ◌≤◌, ◌<◌, Bool, List, map, length, get_or, ℤ, nat_abs, ◌-ℤ◌}
 use Rattle.std.proofs.Math.Path.{sym, ap}
 use Rattle.std.proofs.Common.{◌∙◌, subst}
 use native.Mathlib.Omega.{arith}
@@ -16,21 +16,19 @@ use Rattle.rules.proofs.Laws.Scoped.{ports_of, StmtsOk}
 use Rattle.tape.specs.Layout.{value_of}
 use Rattle.tape.specs.Encoding.{exp_w}
 use Rattle.tape.specs.Resolved.{slot_w}
-use Rattle.values.specs.Loops.{HereTwo, WrittenTwo, Turns, both-bounds, eval-small, rounds-small, next_small}
+use Rattle.values.specs.Loops.{HereTwo, WrittenTwo, Turns, both-bounds, eval-small, rounds-small}
 use Rattle.values.specs.declared.Rounds.{Rounds}
 use Rattle.values.specs.declared.Rounds.TheVariants.{From, Wrong}
 use Rattle.frames.specs.declared.Frame.{Frame}
-use Rattle.frames.specs.Stands.{Stands, Knows, eval-knows}
+use Rattle.frames.specs.Stands.{eval-knows}
 use Rattle.gates.specs.declared.Counts.{Counts}
-use Rattle.gates.specs.Shows.{Shows}
 use Rattle.unfold.specs.Header.{body_w}
 use Rattle.unfold.specs.Loops.{body_at, loop-ends, loop-many, loop-bounds, loop-body}
 use Rattle.unfold.specs.Onward.{alone, IsLoop}
 use Rattle.unfold.specs.Statements.{HereStmts}
 use Rattle.unfold.specs.Steps.{loop-refused}
-use Rattle.cycle.specs.declared.Out.{Out}
-use Rattle.cycle.specs.declared.Out.TheVariants.{Done, No}
-use Rattle.cycle.specs.Task.{Task, Ready, Answers, then-end}
+use Rattle.cycle.specs.declared.Out.TheVariants.{Done}
+use Rattle.cycle.specs.Task.{Task, Answers, then-end}
 
 -- a loop over index i at p
 pub record LoopHere (len : ℕ) (P : Program) (t : List ℕ) (at end₁ : ℕ) (E : List Role) (i p : ℕ) (c : Stmts ℕ Callee) : Type 0 where

@@ -1,10 +1,10 @@
 -- What the members of the cycle are given, and what they answer. Assumes nothing.
-use Rattle.std.specs.Prelude.{◌≡◌, ℕ, zero, suc, ◌+◌, ◌≤◌, ◌<◌, Bool, List, map, length}
+use Rattle.std.specs.Prelude.{◌≡◌, ℕ, ◌≤◌, ◌<◌, Bool, List, map, length}
 use Rattle.std.proofs.Math.Path.{refl, sym, ap}
 use Rattle.std.proofs.Common.{◌∙◌, subst, arith}
 use Rattle.rules.specs.Names.{Role}
-use Rattle.rules.specs.Outcome.{Out as Outcome, ok, refuse, ◌>>=◌, at}
-use Rattle.rules.specs.Syntax.{Exp, Arg, Stmts, end, call, loop, Callee, gate, block, Program}
+use Rattle.rules.specs.Outcome.{Out as Outcome, ok, refuse, ◌>>=◌}
+use Rattle.rules.specs.Syntax.{Stmts, end, call, loop, Callee, Program}
 use Rattle.rules.specs.Values.{Env}
 use Rattle.rules.specs.Frames.{Frame as Names}
 use Rattle.rules.specs.Unfold.{Range, State, Act, unfolds, tick, deep}

@@ -1,5 +1,4 @@
 use Rattle.cycle.specs.Calls.{answered}
-use borrow.Author.Rules.{rules}
 use Rattle.cycle.proofs.answer.Goals as goal
 
 pub returns-in-Done : goal.returns-in-Done

@@ -1,5 +1,4 @@
 use Rattle.cycle.specs.Calls.{place_in}
-use borrow.Author.Rules.{rules}
 use Rattle.cycle.proofs.place_in.Goals as goal
 
 pub returns-in-Gate : goal.returns-in-Gate
