@@ -15,6 +15,7 @@ use marks::{Divided, Key};
 use tape::{Kind, Read};
 
 // A name that is declared, where `count` stand before it in its block.
+#[tactic(auto, using(crate::specs::Parts::allowed, crate::specs::Parts::over))]
 fn declared(text: &[u8], at: usize, count: usize) -> Read
     ensures tells { Tells (spelling text.now) (declared_at text.now count at) result }
     ensures named { Named (length text.now) at result }

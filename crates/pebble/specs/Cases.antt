@@ -1,5 +1,5 @@
 -- What is printed for 01's design, and for some refusals, by the definition. Assumes nothing.
-use Rattle.std.specs.Prelude.{◌≡◌, refl, List, ◌++◌}
+use Rattle.std.specs.Prelude.{◌≡◌, refl, ◌++◌}
 use Rattle.std.proofs.Common.{ap, ◌∙◌}
 use Rattle.rules.specs.Text.{bytes, joined, pick, zeros}
 use Rattle.rules.specs.Netlist.{records}

@@ -26,9 +26,9 @@ pub no-letter : (b k p e : ℕ) → k ≡ class_of b → (k ≡ 3 → ⊥) → B
 unfolding pick
 no-letter b k p e c h = rw (← (letter-class b), ← c, ne_eqb k 3 h)
 
-pub a-name : (b k p e : ℕ) → k ≡ class_of b → k ≡ 3 → e - p ≤ 16 → Name p e ≡ name_or b p e
+pub short_enough : (b k p e : ℕ) → k ≡ class_of b → k ≡ 3 → e - p ≤ 16 → Name p e ≡ name_or b p e
 unfolding pick
-a-name b k p e c h g = rw (← (letter-class b), ← c, eq-eqb k 3 h, le-leb (e - p) 16 g)
+short_enough b k p e c h g = rw (← (letter-class b), ← c, eq-eqb k 3 h, le-leb (e - p) 16 g)
 
 pub too_long : (b k p e : ℕ) → k ≡ class_of b → k ≡ 3 → 16 < e - p → Bad p ≡ name_or b p e
 unfolding pick

@@ -146,6 +146,7 @@ fn reserved(text: &[u8], start: usize, end: usize) -> usize
 }
 
 // A name from `p` to `end`, if the word there is one.
+#[tactic(auto, using(crate::proofs::Spelled::short_enough, crate::proofs::Spelled::too_long))]
 fn name(text: &[u8], p: usize, end: usize) -> Word
     requires { (p < end) × (end ≤ length text.now) }
     ensures { result ≡ pick (is_letter (get_or text.now p 0) && leb (end - p) 16) (Name p end) (Bad p) }

@@ -1,4 +1,3 @@
-use borrow.Author.Rules.{rules}
 use Rattle.drive.proofs.main.Given as goal
 
 abbrev pub invariant-loop-turns : goal.invariant-loop-turns

@@ -1,4 +1,4 @@
-use Rattle.std.proofs.Common.{◌≤◌, ◌^◌, ◌<◌, ◌∙◌, arith}
+use Rattle.std.proofs.Common.{◌≤◌, ◌∙◌, arith}
 use Rattle.pebble.specs.Decimal.{fewest-decimal, at-most-20}
 use Rattle.write.specs.Put.{put_is}
 use Rattle.pebble.proofs.put_number.Goals as goal

@@ -1,8 +1,6 @@
 use Prim.Native.Nat.{◌-◌, ◌≤◌}
-use borrow.Author.Rules.{rules}
 use lib.ListN.{length}
-use mathlib.Core.Path.{◌≡◌, refl, ◌∙◌}
-use native.Mathlib.Omega.{arith}
+use mathlib.Core.Path.{◌≡◌}
 use Rattle.pebble.proofs.read_all.Given as goal
 
 abbrev pub invariant-loop-have : goal.invariant-loop-have

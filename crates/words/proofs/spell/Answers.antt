@@ -1,4 +1,5 @@
 use Rattle.words.proofs.Spelled.{a-reserved, long-word, not-digits, a-number}
+use native.Mathlib.Omega.{arith}
 use Rattle.words.proofs.spell.Goals as goal
 
 pub returns-then-k-lt14 : goal.returns-then-k-lt14
@@ -15,4 +16,4 @@ returns-then-run_end-end c =
 
 pub returns : goal.returns
 returns c =
-    a-number c.args.text.now c.args.p c.args.end c.requires.0 c.requires.1 _ _ _ c.reserved-k.ensures c.if-k-lt14.false c.if-end-p-gt6.false c.run_end.ensures c.if-run_end-end.false c.value.ensures
+    a-number c.args.text.now c.args.p c.args.end c.requires.0 c.requires.1 _ _ _ c.reserved-k.ensures c.if-k-lt14.false (omega arith) c.run_end.ensures c.if-run_end-end.false c.value.ensures

@@ -1,8 +1,6 @@
 use Prim.Native.Nat.{◌-◌}
-use borrow.Author.Rules.{rules}
-use lib.ListN.{length, length-set}
-use mathlib.Core.Path.{refl, ◌≡◌}
-use native.Mathlib.Omega.{arith}
+use lib.ListN.{length}
+use mathlib.Core.Path.{◌≡◌}
 use Rattle.drive.proofs.input.words.Given as goal
 
 abbrev pub invariant-loop-i : goal.invariant-loop-i
