@@ -1,5 +1,5 @@
 -- What `flatten` promises: everything that a caller sees is what the rules say. Assumes nothing.
-use Rattle.std.specs.Prelude.{◌≡◌, refl, ℕ, List, length}
+use Rattle.std.specs.Prelude.{◌≡◌, ℕ, List, length}
 use Rattle.std.proofs.Common.{sym, ap, ◌∙◌}
 use Rattle.rules.specs.Text.{zeros}
 use Rattle.rules.specs.Flatten.{Answer, flatten}

@@ -8,7 +8,7 @@ use Rattle.std.proofs.lemmas.Bool.{lt-leb}
 use Rattle.rules.specs.declared.Gate.{Gate}
 use Rattle.rules.specs.Outcome.{Out, ok, refuse, ◌>>=◌, need}
 use Rattle.rules.specs.Syntax.{Program}
-use Rattle.rules.specs.Netlist.{gates, gate_words, net_words, records}
+use Rattle.rules.specs.Netlist.{gate_words, net_words, records}
 use Rattle.rules.specs.Unfold.{Unfolded, unfold_main}
 use Rattle.rules.specs.Flatten.{program, flattened, answer, flatten}
 use Rattle.rules.proofs.Laws.Outcomes.{inv, ok-inj, bind_ok}

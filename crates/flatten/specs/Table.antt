@@ -3,7 +3,7 @@
 use Rattle.std.specs.Prelude.{◌≡◌, refl, ℕ, zero, suc, ◌-◌, ◌≤◌, ◌<◌, true, false, List, [], ◌∷◌, ◌++◌, map, length, get_or}
 use Rattle.std.proofs.Common.{sym, ap, ◌∙◌, subst, arith, lit≤}
 use Prim.Native.String.{String}
-use Rattle.rules.specs.Text.{bytes, zeros, pick, joined, same, index_of}
+use Rattle.rules.specs.Text.{bytes, zeros, pick, same, index_of}
 use Rattle.rules.specs.Outcome.{Out, refuse, ◌>>=◌, at, need, nth}
 use Rattle.rules.specs.Primitives.{primitive}
 use Rattle.rules.specs.Words.{run, all, value_of, spelled, begun, word_at}

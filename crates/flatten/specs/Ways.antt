@@ -1,6 +1,6 @@
 -- How the code comes to its answer, layer by layer. Assumes nothing.
-use Rattle.std.specs.Prelude.{◌≡◌, refl, ℕ, ◌-◌, ◌≤◌, ◌<◌, Bool, true, false, ◌&&◌, List, ◌++◌, length, leb}
-use Rattle.std.proofs.Common.{sym, ap, ◌∙◌, subst, arith, le-leb}
+use Rattle.std.specs.Prelude.{◌≡◌, refl, ℕ, ◌≤◌, ◌<◌, Bool, true, false, ◌&&◌, List, length, leb}
+use Rattle.std.proofs.Common.{sym, ap, ◌∙◌, subst, le-leb}
 use Rattle.std.proofs.lemmas.Bool.{lt-leb}
 use Rattle.rules.specs.Text.{zeros}
 use Rattle.rules.specs.Outcome.{Out, ok, refuse, ◌>>=◌, need}
@@ -12,10 +12,10 @@ use Rattle.rules.specs.Flatten.{program, flattened, answer, flatten}
 use Rattle.rules.proofs.Laws.Outcomes.{inv}
 use Rattle.tape.specs.declared.Read.{Read}
 use Rattle.tape.specs.declared.Read.TheVariants.{Done, No}
-use Rattle.grammar.specs.Promise.{read_text, Stands, Reads}
+use Rattle.grammar.specs.Promise.{read_text, Reads}
 use Rattle.sweep.specs.declared.Named.{Named}
 use Rattle.sweep.specs.declared.Named.TheVariants.{Done as Right, No as Wrong}
-use Rattle.sweep.specs.Resolves.{Holds, Readable, Right as Resolved, Resolves}
+use Rattle.sweep.specs.Resolves.{Holds, Resolves}
 use Rattle.names.specs.Handed.{handed}
 use Rattle.places.specs.Held.{Held}
 use Rattle.places.specs.Handed.{held}

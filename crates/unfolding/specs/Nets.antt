@@ -1,6 +1,6 @@
 -- A whole unfolding: from main on the tape to the netlist's words. Assumes nothing.
-use Rattle.std.specs.Prelude.{◌≡◌, refl, ℕ, zero, suc, ◌+◌, ◌-◌, ◌*◌, ◌≤◌, ◌<◌, Bool, false, List, [], ◌∷◌, ◌++◌, map, get_or, set, drop, replicate}
-use Rattle.std.proofs.Common.{sym, ◌∙◌, arith, length-append, length-set}
+use Rattle.std.specs.Prelude.{◌≡◌, refl, ℕ, suc, ◌+◌, ◌-◌, ◌*◌, ◌≤◌, Bool, false, List, [], ◌∷◌, ◌++◌, map, get_or, set, drop, replicate}
+use Rattle.std.proofs.Common.{sym, ◌∙◌, arith, length-set}
 use Rattle.std.proofs.Math.Path.{ap, subst}
 use Rattle.std.proofs.Math.ListN.{length}
 use Rattle.std.proofs.lemmas.List.{length-replicate, get_or-replicate}
@@ -28,9 +28,8 @@ use Rattle.unfold.specs.Header.{HereBlock, WrittenBlock, body_w, after_locals}
 use Rattle.unfold.specs.Statements.{HereStmts}
 use Rattle.unfold.specs.Shelf.{Shelf, body_from, body_to}
 use Rattle.start.specs.First.{begun, main-refused, body_refused, body-done, begun-suits}
-use Rattle.start.specs.Begins.{Began, Begins, BeginsAs}
+use Rattle.start.specs.Begins.{Begins, BeginsAs}
 use Rattle.start.specs.declared.Begun.{Begun}
-use Rattle.start.specs.declared.Start.{Start}
 use Rattle.start.specs.declared.Start.TheVariants.{Body as Entered, No as Refused}
 use Rattle.places.specs.Held.{Held}
 use Rattle.cycle.specs.declared.Out.{Out}

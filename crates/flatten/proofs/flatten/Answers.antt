@@ -1,9 +1,7 @@
-use mathlib.Core.Path.{◌≡◌, refl, sym, ap, ◌∙◌, subst}
-use native.Mathlib.Omega.{arith}
+use mathlib.Core.Path.{sym, ap, ◌∙◌}
 use lib.ListN.{length}
 use Rattle.rules.specs.Text.{zeros}
 use Rattle.rules.specs.Flatten.{flatten}
-use borrow.Author.Rules.{rules}
 use Rattle.flatten.proofs.flatten.Goals as goal
 
 pub flatten_clean-r-requires : goal.flatten_clean-r-requires

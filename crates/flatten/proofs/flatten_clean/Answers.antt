@@ -1,9 +1,5 @@
-use mathlib.Core.Path.{◌≡◌, refl, sym, ap, ◌∙◌, subst}
-use native.Mathlib.Omega.{arith}
-use lib.ListN.{length}
-use Rattle.rules.specs.Text.{zeros}
+use mathlib.Core.Path.{refl, ◌∙◌}
 use Rattle.flatten.specs.Ways.{refused-is, net-short, read_no, read_right, was_read, flatten-is}
-use borrow.Author.Rules.{rules}
 use Rattle.flatten.proofs.flatten_clean.Goals as goal
 
 pub returns-then-netlist-lt5124 : goal.returns-then-netlist-lt5124

@@ -1,8 +1,6 @@
-use mathlib.Core.Path.{◌≡◌, refl, sym, ap, ◌∙◌}
 use native.Mathlib.Omega.{arith}
 use lib.ListN.{set, length-set}
 use Rattle.unfolding.specs.Nets.{front, front_long}
-use borrow.Author.Rules.{rules}
 use Rattle.unfolding.proofs.contents.Goals as goal
 
 pub bounds-net-1 : goal.bounds-net-1
@@ -13,4 +11,4 @@ bounds-net-2 c = omega (arith, c.requires.0, length-set c.args.net.now 0 c.narro
 
 pub returns : goal.returns
 returns c =
-    record { net_after = rw (c.narrow.ensures, c.narrow-2.ensures, c.narrow-3.ensures, c.narrow-4.ensures) (front c.args.net.now _ _ _ _ c.requires.0); net_len_unchanged = front_long c.args.net.now _ _ _ _; }
+    record { net_after = rw (c.narrow.ensures, c.narrow-2.ensures, c.narrow-3.ensures, c.narrow-4.ensures) (front c.args.net.now _ _ _ _ c.requires.0); net_len_unchanged = front_long c.args.net.now _ _ _ _ }
