@@ -11,7 +11,7 @@ returns-then-answer-ne0 c = says-refusal (λ e. c.if-answer-ne0.true e) (front c
 
 pub returns-in_default : goal.returns-in_default
 returns-in_default c =
-    says-spoiled c.if-answer-ne0.false (unwritten c.write-wrote.ensures (search rules) (no_length _ c.in_default.not-Written)) (front c.put_refusal-in_default.ensures.put (omega (arith, c.put_refusal-in_default.ensures.upper_bound)))
+    says-spoiled c.if-answer-ne0.false (unwritten c.write-wrote.ensures (search rules) (no_length _ c.in_default.not-Written)) (front {t = c.write-wrote.new.text} (search rules) (omega arith))
 
 pub returns : goal.returns
 unfolding told
