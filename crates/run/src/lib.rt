@@ -26,6 +26,7 @@ fn pin(values: &[u8], n: usize, k: usize, x: u16) -> u8
 }
 
 // Gate j makes its output known where its inputs are; whether it did.
+#[tactic(auto, using(crate::proofs::Waits::waits))]
 fn visit(net: &[u16], values: &mut [u8], j: u16) -> bool
     requires well_formed { WellFormed net.now }
     requires in_bounds { (1536 ≤ length values.old) × (j < gates net.now) }

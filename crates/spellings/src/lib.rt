@@ -159,6 +159,7 @@ pub fn declared_before(text: &[u8], scope: &[u32], count: usize, word: u32) -> b
 }
 
 // What a declared word's name is: 0 a WIRE, 1 a VECTOR, 2 a NUM, 3 a generic.
+#[tactic(auto, using(crate::proofs::Roles::roles))]
 fn role_of(word: u32) -> u32
     ensures { result ≡ role_number (role_in word) }
 {
@@ -184,6 +185,7 @@ pub fn stands(declared: u32, at: usize, until: usize) -> bool
 }
 
 // Whether a declared name may be an argument, whole (head 0) or with a subscript.
+#[tactic(auto, using(crate::proofs::Roles::sorts))]
 pub fn sort_fits(head: u32, declared: u32) -> bool
     ensures { result ≡ sort_fits head (role_in declared) }
 {

@@ -1,5 +1,5 @@
 -- The cases of a word's spelling, of two dots and of what begins at a place, each from the tests that lead to it. Assumes nothing.
-use mathlib.Core.Path.{◌≡◌, sym, ◌∙◌, subst}
+use mathlib.Core.Path.{◌≡◌, refl, sym, ◌∙◌, subst}
 use mathlib.Core.Bool.{true, false, ◌&&◌, and-false}
 use mathlib.Core.List.{List, map}
 use Prim.Native.Nat.{ℕ, suc, ◌+◌, ◌-◌, ◌<◌, ◌≤◌}
@@ -26,13 +26,16 @@ pub no-letter : (b k p e : ℕ) → k ≡ class_of b → (k ≡ 3 → ⊥) → B
 unfolding pick
 no-letter b k p e c h = rw (← (letter-class b), ← c, ne_eqb k 3 h)
 
-pub short_enough : (b k p e : ℕ) → k ≡ class_of b → k ≡ 3 → e - p ≤ 16 → Name p e ≡ name_or b p e
+-- by the letters of the test, whatever is picked
+pub a-name : (b n : ℕ) (x y : Word) → class_of b ≡ 3 → n ≤ 16 → pick (is_letter b && leb n 16) x y ≡ x
 unfolding pick
-short_enough b k p e c h g = rw (← (letter-class b), ← c, eq-eqb k 3 h, le-leb (e - p) 16 g)
+a-name b n x y h g = rw (← (letter-class b), eq-eqb (class_of b) 3 h, le-leb n 16 g)
 
-pub too_long : (b k p e : ℕ) → k ≡ class_of b → k ≡ 3 → 16 < e - p → Bad p ≡ name_or b p e
+pub too_long : (b n : ℕ) (x y : Word) → class_of b ≡ 3 → 16 < n → pick (is_letter b && leb n 16) x y ≡ y
 unfolding pick
-too_long b k p e c h g = rw (← (letter-class b), ← c, eq-eqb k 3 h, lt-leb (e - p) 16 g)
+too_long b n x y h g = rw (← (letter-class b), eq-eqb (class_of b) 3 h, lt-leb n 16 g)
+
+pub ruleset name_by_length = (a-name, too_long)
 
 -- ---- two dots
 
@@ -76,10 +79,10 @@ module _ (s : List ℕ) (p e : ℕ) (h : p < e) (g : e ≤ length s) where
   unfolding spelled pick
   not-reserved k c l = rw (← c, le-ltb k 14 l, part_length, part-first)
 
-  pub long-word : (k : ℕ) → k ≡ index_of (take (e - p) (drop p s)) (map bytes reserved) → 14 ≤ k → 6 < e - p
-      → {r : Word} → r ≡ name_or (get_or s p 0) p e → r ≡ spelled p e (take (e - p) (drop p s))
+  pub long-word : 14 ≤ index_of (take (e - p) (drop p s)) (map bytes reserved) → 6 < e - p
+      → spelled p e (take (e - p) (drop p s)) ≡ name_or (get_or s p 0) p e
   unfolding pick
-  long-word k c l n i = i ∙ sym (not-reserved k c l ∙ rw (lt-leb (e - p) 6 n, and-false (all is_digit (take (e - p) (drop p s)))))
+  long-word l n = not-reserved _ refl l ∙ rw (lt-leb (e - p) 6 n, and-false (all is_digit (take (e - p) (drop p s))))
 
   pub not-digits : (k r : ℕ) → k ≡ index_of (take (e - p) (drop p s)) (map bytes reserved) → 14 ≤ k
       → r ≡ p + run (in_classes 2 2) (drop p s) → r < e → {o : Word} → o ≡ name_or (get_or s p 0) p e → o ≡ spelled p e (take (e - p) (drop p s))
@@ -94,6 +97,8 @@ module _ (s : List ℕ) (p e : ℕ) (h : p < e) (g : e ≤ length s) where
   a-number k r v c l m d n f =
       let i : e - p ≤ run is_digit (drop p s) = omega (arith, digits (drop p s)) in
       sym (not-reserved k c l ∙ rw (all-run is_digit (drop p s) (e - p) i, le-leb (e - p) 6 m, ← f))
+
+pub ruleset words_by_length = (long-word)
 
 -- ---- what begins at a place
 

@@ -146,7 +146,7 @@ fn reserved(text: &[u8], start: usize, end: usize) -> usize
 }
 
 // A name from `p` to `end`, if the word there is one.
-#[tactic(auto, using(crate::proofs::Spelled::short_enough, crate::proofs::Spelled::too_long))]
+#[tactic(auto, using(crate::proofs::Spelled::name_by_length))]
 fn name(text: &[u8], p: usize, end: usize) -> Word
     requires { (p < end) × (end ≤ length text.now) }
     ensures { result ≡ pick (is_letter (get_or text.now p 0) && leb (end - p) 16) (Name p end) (Bad p) }
@@ -162,6 +162,7 @@ fn name(text: &[u8], p: usize, end: usize) -> Word
 }
 
 // The word from `p` to `end` by its letters.
+#[tactic(auto, using(crate::proofs::Spelled::words_by_length))]
 fn spell(text: &[u8], p: usize, end: usize) -> Word
     requires { (p < end) × (end ≤ length text.now) }
     ensures { result ≡ spelled p end (take (end - p) (drop p text.now)) }

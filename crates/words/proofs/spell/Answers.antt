@@ -1,14 +1,10 @@
-use Rattle.words.proofs.Spelled.{a-reserved, long-word, not-digits, a-number}
 use native.Mathlib.Omega.{arith}
+use Rattle.words.proofs.Spelled.{a-reserved, not-digits, a-number}
 use Rattle.words.proofs.spell.Goals as goal
 
 pub returns-then-k-lt14 : goal.returns-then-k-lt14
 returns-then-k-lt14 c =
     a-reserved c.args.text.now c.args.p c.args.end c.requires.0 c.requires.1 _ c.reserved-k.ensures c.if-k-lt14.true
-
-pub returns-then-end-p-gt6 : goal.returns-then-end-p-gt6
-returns-then-end-p-gt6 c =
-    long-word c.args.text.now c.args.p c.args.end c.requires.0 c.requires.1 _ c.reserved-k.ensures c.if-k-lt14.false c.if-end-p-gt6.true c.name.ensures
 
 pub returns-then-run_end-end : goal.returns-then-run_end-end
 returns-then-run_end-end c =
