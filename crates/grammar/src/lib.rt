@@ -46,6 +46,7 @@ fn title(text: &[u8], tape: &mut [u32], at: usize, to: usize) -> Read
 }
 
 // A block, after BLOCK, which stands at `place`, where `count` blocks stand before it.
+#[tactic(auto, using(crate::proofs::Limits::limits))]
 fn block(text: &[u8], tape: &mut [u32], at: usize, to: usize, count: usize, place: usize) -> Read
     requires { Room 9 text.now tape.old at to }
     ensures gives { Gives none (block_w name_w callee_w) (a_block text.now count place at) tape.old to tape.new result }

@@ -368,6 +368,7 @@ fn sweep_words(
 }
 
 // 9: main is there, and has no generics.
+#[tactic(auto, using(crate::proofs::Main::generic_main))]
 fn main_block(text: &[u8], heads: &[u32], places: &[usize], titles: &[u32], known: usize) -> Named
     requires { Rows heads.now places.now }
     ensures { Answers (main_in text.now heads.now places.now (take known titles.now)) result }

@@ -51,7 +51,7 @@ returns-then-c-text c =
     let w1 = step w0 c.see_wires.ensures c.in-To.is in
     let w2 = step w1 c.see_gates.ensures c.in-To-see_gates.is in
     let w3 = step w2 c.see.ensures c.in-To-see.is in
-    so (well, whole (finish w3) c.if-c-text.true)
+    so (well, whole (finish w3) (omega arith))
 
 pub returns : goal.returns
 returns c =
@@ -59,4 +59,4 @@ returns c =
     let w1 = step w0 c.see_wires.ensures c.in-To.is in
     let w2 = step w1 c.see_gates.ensures c.in-To-see_gates.is in
     let w3 = step w2 c.see.ensures c.in-To-see.is in
-    not_so (λ p. not-whole (finish w3) c.if-c-text.false p.1)
+    not_so (λ p. not-whole (finish w3) (omega arith) p.1)

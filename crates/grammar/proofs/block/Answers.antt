@@ -1,11 +1,8 @@
-use Rattle.grammar.specs.Parts.{block-over, block-any, body-off, block-off, block-got}
+use Rattle.grammar.specs.Parts.{block-any, body-off, block-off, block-got}
 use Rattle.marks.specs.Laws.One.{passed}
 use mathlib.Core.Path.{◌∙◌}
 use native.Mathlib.Omega.{arith}
 use Rattle.grammar.proofs.block.Goals as goal
-
-pub returns-then-count-ge64 : goal.returns-then-count-ge64
-returns-then-count-ge64 c = record { gives = block-over _ _ _ _ c.if-count-ge64.true; spends = tt; below = tt }
 
 pub returns-in_default : goal.returns-in_default
 returns-in_default c = let p = c.in_default.is in record { gives = rw p (block-any _ _ _ _ (omega arith) ∙ rw p at c.title-h.ensures.titles); spends = rw p tt; below = rw p tt }
@@ -45,4 +42,4 @@ returns c =
     let h = rw c.in-Done.is at c.title-h.ensures.spends in
     let d = rw c.in-Done-d.is at c.statements-d.ensures.spends in
     let e = rw c.in-Done-e.is at c.mark-e.ensures.past in
-    record { gives = block-got _ _ _ _ (omega arith) (rw c.in-Done.is at c.title-h.ensures.titles) (rw c.in-Done-d.is at c.statements-d.ensures.gives) (passed ";" _ _ (rw c.in-Done-e.is at c.mark-e.ensures.tells)) c.store.ensures; spends = omega arith; below = (omega arith) }
+    record { gives = block-got _ _ _ _ (omega arith) (rw c.in-Done.is at c.title-h.ensures.titles) (rw c.in-Done-d.is at c.statements-d.ensures.gives) (passed ";" _ _ (rw c.in-Done-e.is at c.mark-e.ensures.tells)) c.store.ensures; spends = omega arith; below = omega arith }

@@ -5,7 +5,7 @@ use Rattle.values.proofs.take.Goals as goal
 
 pub returns-then-mark-eq-TIMES : goal.returns-then-mark-eq-TIMES
 unfolding step taken pick
-returns-then-mark-eq-TIMES c = rw (eq-eqb _ _ c.if-mark-eq-TIMES.true, ← c.sign-factor.ensures, ← c.join-product.ensures)
+returns-then-mark-eq-TIMES c = rw (eq-eqb _ _ c.if-mark-eq-TIMES.true, ← c.sign-factor.ensures, c.join-product.ensures)
 
 pub returns : goal.returns
 unfolding step taken pick
