@@ -70,6 +70,7 @@ fn flatten_read(text: &[u8], work: &mut [u32], end: usize, netlist: &mut [u16]) 
 }
 
 // Into a netlist that holds zeros.
+#[tactic(auto, using(crate::proofs::Short::short_netlist))]
 fn flatten_clean(text: &[u8], work: &mut [u32], netlist: &mut [u16]) -> Flattened
     requires { netlist.old ≡ zeros (length netlist.old) }
     ensures { seen result netlist.new ≡ flatten text.now (length work.old) (length netlist.old) }

@@ -1,19 +1,16 @@
-use mathlib.Core.Path.{refl, ◌∙◌}
-use Rattle.flatten.specs.Ways.{refused-is, net-short, read_no, read_right, was_read, flatten-is}
+use Rattle.std.proofs.Common.{refl, ◌∙◌, arith}
+use Rattle.flatten.specs.Ways.{refused-is, read_no, read_right, was_read, flatten-is}
 use Rattle.flatten.proofs.flatten_clean.Goals as goal
-
-pub returns-then-netlist-lt5124 : goal.returns-then-netlist-lt5124
-returns-then-netlist-lt5124 c = rw c.refused.ensures (flatten-is _ _ _ _ (net-short _ _ _ c.if-netlist-lt5124.true) (refused-is _ c.requires refl))
 
 pub flatten_read-requires : goal.flatten_read-requires
 flatten_read-requires c =
-    (was_read (read_right _ _ _ c.in-Done.is c.read_program-read.ensures), c.requires, c.if-netlist-lt5124.false)
+    (was_read (read_right _ _ _ c.in-Done.is c.read_program-read.ensures), c.requires, (omega arith))
 
 pub shape_of-work-in-No : goal.shape_of-work-in-No
 shape_of-work-in-No c = c.read_program-read.auto.table
 
 pub returns-in-No : goal.returns-in-No
-returns-in-No c = rw c.refused-in-No.ensures (flatten-is _ _ _ _ (read_no _ _ _ _ c.if-netlist-lt5124.false c.in-No.is c.read_program-read.ensures) (refused-is _ c.requires refl))
+returns-in-No c = rw c.refused-in-No.ensures (flatten-is _ _ _ _ (read_no _ _ _ _ (omega arith) c.in-No.is c.read_program-read.ensures) (refused-is _ c.requires refl))
 
 pub shape_of-work-in-Done : goal.shape_of-work-in-Done
 shape_of-work-in-Done c = c.flatten_read.auto.work ∙ c.read_program-read.auto.table
@@ -24,4 +21,4 @@ shape_of-netlist c = c.flatten_read.auto.netlist
 pub returns-in-Done : goal.returns-in-Done
 returns-in-Done c =
     let r = read_right _ _ _ c.in-Done.is c.read_program-read.ensures in
-    flatten-is _ _ _ _ (r.is _ c.if-netlist-lt5124.false) (c.flatten_read.ensures _ r.reads r.holds)
+    flatten-is _ _ _ _ (r.is _ (omega arith)) (c.flatten_read.ensures _ r.reads r.holds)
