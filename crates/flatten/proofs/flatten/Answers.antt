@@ -7,9 +7,6 @@ use Rattle.flatten.proofs.flatten.Goals as goal
 pub flatten_clean-r-requires : goal.flatten_clean-r-requires
 flatten_clean-r-requires c = c.words.ensures ∙ ap zeros (sym c.words.auto.lent)
 
-pub shape_of-work : goal.shape_of-work
-shape_of-work c = c.clear.auto.tape ∙ c.flatten_clean-r.auto.work
-
 pub shape_of-netlist : goal.shape_of-netlist
 shape_of-netlist c = c.flatten_clean-r.auto.netlist ∙ c.words.auto.lent
 
