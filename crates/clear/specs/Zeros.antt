@@ -1,9 +1,7 @@
 -- Memory that is all zero, at any width. Assumes nothing.
-use Rattle.std.specs.Prelude.{◌≡◌, refl, List, ◌++◌, ℕ, zero, suc, ◌+◌, ◌-◌, ◌≤◌, ◌<◌, length, get_or, set, drop}
-use Rattle.std.proofs.Common.{ap, ◌∙◌, append-nil, arith, length-set}
+use Rattle.std.specs.Prelude.{◌≡◌, refl, List, [], ◌∷◌, ◌++◌, ℕ, zero, suc, ◌+◌, ◌-◌, ◌<◌, length, get_or, set, drop, replicate}
+use Rattle.std.proofs.Common.{ap, arith}
 use Rattle.std.proofs.lemmas.List.{length-replicate}
-use Rattle.std.proofs.Math.Seq.{drop-length}
-use Rattle.std.proofs.lemmas.List.Edits.{fill_more}
 pub use Rattle.rules.specs.Text.{zeros}
 
 pub zeros-at : (n i : ℕ) → get_or (zeros n) i 0 ≡ 0
@@ -21,18 +19,8 @@ drop-zeros (suc n) (suc k) = let e : suc n - suc k ≡ n - k = omega arith in rw
 
 -- ---- while memory is being cleared
 
--- the first i elements of v₀ are cleared in v
-pub record Cleared (v₀ : List ℕ) (i : ℕ) (v : List ℕ) : Type 0 where
-  pub long : length v ≡ length v₀
-  pub inside : i ≤ length v₀
-  pub is : v ≡ zeros i ++ drop i v₀
-
-pub cleared-none : (v : List ℕ) → Cleared v 0 v
-cleared-none v = record { long = refl; inside = omega arith; is = refl }
-
-pub cleared_more : {v₀ v : List ℕ} {i : ℕ} → i < length v₀ → Cleared v₀ i v → Cleared v₀ (i + 1) (set v i 0)
-cleared_more {v₀} {v} {i} h c =
-    record { long = simp length-set c.long; inside = omega arith; is = ap (λ (l : List ℕ). set l i 0) c.is ∙ fill_more _ _ _ h }
-
-pub cleared-all : {v₀ v : List ℕ} {i : ℕ} → length v ≤ i → Cleared v₀ i v → v ≡ zeros (length v₀)
-cleared-all {v₀} {i} h c = let e : i ≡ length v₀ = omega (arith, c.long, c.inside) in c.is ∙ rw (e, drop-length, append-nil)
+-- the first n cells are cleared, and one more is
+pub cleared-more : {X : Type 0} (v : X) (n : ℕ) (d : List X) → n < length d → set (replicate n v ++ drop n d) n v ≡ replicate (n + 1) v ++ drop (n + 1) d
+cleared-more v n [] h = absurd (omega arith)
+cleared-more v zero (x ∷ d) h = refl
+cleared-more v (suc n) (x ∷ d) h = let e : suc n + 1 ≡ suc (n + 1) = omega arith in rw e (ap (λ l. v ∷ l) (cleared-more v n d (omega arith)))

@@ -1,25 +1,38 @@
 // Lent memory set to zero: what a job did not use, and what a refusal leaves.
 #![tactic(auto)]
 
-ghost use Rattle.std.specs.Prelude.{◌≡◌, length};
-ghost use Rattle.clear.specs.Zeros.{zeros};
+ghost use Rattle.std.specs.Prelude.{◌≡◌, length, replicate};
 
-pub fn bytes(lent: &mut [u8])
-    ensures { lent.new ≡ zeros (length lent.old) }
-{
-    let mut i = 0;
-    while i < lent.len() {
-        lent[i] = 0;
-        i += 1;
-    }
+// What memory is lent in: bytes, and words of two widths. What stays zero is of no width, so that each job clears by the same promise.
+pub trait Cell: Copy {
+    ghost ZERO: { Self };
+
+    const ZERO: Self;
 }
 
-pub fn words(lent: &mut [u16])
-    ensures { lent.new ≡ zeros (length lent.old) }
+impl Cell for u8 {
+    ghost ZERO = { 0 };
+
+    const ZERO: u8 = 0;
+}
+
+impl Cell for u16 {
+    ghost ZERO = { 0 };
+
+    const ZERO: u16 = 0;
+}
+
+impl Cell for u32 {
+    ghost ZERO = { 0 };
+
+    const ZERO: u32 = 0;
+}
+
+// All zeros, whatever stood there.
+pub fn all<T: Cell>(lent: &mut [T])
+    ensures { lent.new ≡ replicate (length lent.old) T.ZERO }
 {
-    let mut k = 0;
-    while k < lent.len() {
-        lent[k] = 0;
-        k += 1;
+    for cell in lent.iter_mut() {
+        *cell = T::ZERO;
     }
 }

@@ -1,10 +1,10 @@
 -- What each kind counts and makes. Assumes nothing.
 use mathlib.Core.Path.{◌≡◌, refl, sym, ap}
 use mathlib.Core.Bool.{Bool, true, false, cond}
-use mathlib.Core.List.{List, [], ◌∷◌, ◌++◌}
+use mathlib.Core.List.{List, [], ◌∷◌}
 use Prim.Native.Nat.{ℕ, zero, suc, ◌+◌, ◌-◌, ◌≤◌, ◌<◌}
 use native.Mathlib.Omega.{arith}
-use lib.ListN.{get_or, length, replicate, get_or-eq_default}
+use lib.ListN.{get_or, get_or-eq_default}
 use lib.Dec.{eqb}
 use Rattle.rules.specs.Primitives.{Primitive, table, primitive, inputs_of}
 use Rattle.rules.specs.Meaning.{Signal, dark, makes}
@@ -145,8 +145,8 @@ module _ (k a b c : ℕ) where
   of-rest (h, n9) = bit-none k (given a b c) (past-seven k h) n9
 
 -- a number past the table has no name
-pub no_name : (k : ℕ) → ((((((((((Unit {0} × (k ≡ 0 → ⊥)) × (k ≡ 1 → ⊥)) × (k ≡ 2 → ⊥)) × (k ≡ 3 → ⊥)) × (k ≡ 4 → ⊥)) × (k ≡ 5 → ⊥)) × (k ≡ 6 → ⊥)) × (k ≡ 7 → ⊥)) × (k ≡ 8 → ⊥)) × (k ≡ 9 → ⊥)) → (0 ≡ length (primitive k).name) × (replicate 7 0 ≡ (primitive k).name ++ replicate (7 - length (primitive k).name) 0)
+pub no_name : (k : ℕ) → ((((((((((Unit {0} × (k ≡ 0 → ⊥)) × (k ≡ 1 → ⊥)) × (k ≡ 2 → ⊥)) × (k ≡ 3 → ⊥)) × (k ≡ 4 → ⊥)) × (k ≡ 5 → ⊥)) × (k ≡ 6 → ⊥)) × (k ≡ 7 → ⊥)) × (k ≡ 8 → ⊥)) × (k ≡ 9 → ⊥)) → [] ≡ (primitive k).name
 unfolding primitive
 no_name k ((h, n8), n9) =
     let g : 10 ≤ k = past 9 k (past 8 k (past-seven k h) n8) n9 in
-    rw (get_or-eq_default table _ {n = k} g) (refl, refl)
+    rw (get_or-eq_default table _ {n = k} g) refl

@@ -1,5 +1,6 @@
 pub mod Text
 pub mod Outcome
+pub mod Reasons
 pub mod Primitives
 pub mod Words
 pub mod Syntax

@@ -1,10 +1,11 @@
 // The machine types that the definitions speak of. Every rule itself stands in specs/.
 #![tactic(auto)]
 
-ghost use Rattle.std.specs.Prelude.{◌≡◌, cond, [], ◌∷◌, ◌++◌, ◌-◌, length, replicate, eqb};
+ghost use Rattle.std.specs.Prelude.{◌≡◌, cond, [], ◌∷◌, eqb};
 ghost use Rattle.rules.specs.Primitives.{primitive, inputs_of};
 ghost use Rattle.rules.specs.Meaning.{makes};
 ghost use Rattle.rules.specs.Run.{to_byte, from_byte};
+ghost use Rattle.rules.specs.Reasons.{number};
 
 // A gate of a netlist: its five words (01, "Unfolding").
 #[derive(Clone, Copy)]
@@ -16,11 +17,57 @@ pub struct Gate {
     pub out: u16,
 }
 
-// The name of a primitive: so many letters, then zeros.
-#[derive(Clone, Copy)]
-pub struct KindName {
-    pub letters: [u8; 7],
-    pub length: usize,
+// Why a job is refused: each reason is one of the rules' numbers (01, "Numbers of the answers").
+#[derive(Clone, Copy, PartialEq, Eq, Debug)]
+pub enum Reason {
+    // A lent buffer is shorter than its least size.
+    ShortBuffer = 1,
+    LongText = 2,
+    // A byte or word of no kind.
+    NoWord = 3,
+    // A word, or the end, where the order of words forbids it.
+    WrongOrder = 4,
+    // One block, name, loop or level more than is allowed.
+    TooMany = 5,
+    DeclaredTwice = 6,
+    // A name that is unknown or of the wrong sort.
+    WrongName = 7,
+    // Wrong counts, a vector for a wire, or a wire for a vector.
+    WrongShape = 8,
+    // No block main, or one with generics.
+    NoMain = 9,
+    // A value out of range.
+    OutOfRange = 10,
+    // A vector whose bounds are the wrong way round, or that is too long.
+    WrongVector = 11,
+    // A subscript outside its vector.
+    OutsideVector = 12,
+    UnequalVectors = 13,
+    TooDeep = 14,
+    TooManySteps = 15,
+    TooManyWires = 16,
+    TooManyGates = 17,
+    // An output that is driven already, or that is one of main's inputs.
+    DrivenTwice = 18,
+    // A netlist that is not well formed, or a text that no well-formed netlist is written as.
+    NotWellFormed = 19,
+    // Run inputs of the wrong count, or a byte over 1.
+    WrongInputs = 20,
+}
+
+impl Reason {
+    pub fn number(self) -> usize
+        ensures { result ≡ number self }
+    {
+        self as usize
+    }
+}
+
+// A refusal: why, and the place in the text.
+#[derive(Clone, Copy, PartialEq, Eq, Debug)]
+pub struct Refusal {
+    pub reason: Reason,
+    pub place: usize,
 }
 
 // Kind numbers belong to the gate type (01, "Primitives").
@@ -46,54 +93,21 @@ impl Gate {
     pub const ONE: u16 = 9;
 
     // A kind's name; a number past the table has none.
-    pub fn name(kind: u16) -> KindName
-        ensures { (result.length ≡ length (primitive kind).name) × (result.letters ≡ (primitive kind).name ++ replicate (7 - length (primitive kind).name) 0) }
+    pub fn name(kind: u16) -> &'static [u8]
+        ensures { result.now ≡ (primitive kind).name }
     {
         match kind {
-            Gate::CONNECT => KindName {
-                letters: *b"connect",
-                length: 7,
-            },
-            Gate::NOT => KindName {
-                letters: *b"not\0\0\0\0",
-                length: 3,
-            },
-            Gate::AND => KindName {
-                letters: *b"and\0\0\0\0",
-                length: 3,
-            },
-            Gate::OR => KindName {
-                letters: *b"or\0\0\0\0\0",
-                length: 2,
-            },
-            Gate::XOR => KindName {
-                letters: *b"xor\0\0\0\0",
-                length: 3,
-            },
-            Gate::NAND => KindName {
-                letters: *b"nand\0\0\0",
-                length: 4,
-            },
-            Gate::NOR => KindName {
-                letters: *b"nor\0\0\0\0",
-                length: 3,
-            },
-            Gate::MUX => KindName {
-                letters: *b"mux\0\0\0\0",
-                length: 3,
-            },
-            Gate::ZERO => KindName {
-                letters: *b"zero\0\0\0",
-                length: 4,
-            },
-            Gate::ONE => KindName {
-                letters: *b"one\0\0\0\0",
-                length: 3,
-            },
-            _ => KindName {
-                letters: [0; 7],
-                length: 0,
-            },
+            Gate::CONNECT => b"connect",
+            Gate::NOT => b"not",
+            Gate::AND => b"and",
+            Gate::OR => b"or",
+            Gate::XOR => b"xor",
+            Gate::NAND => b"nand",
+            Gate::NOR => b"nor",
+            Gate::MUX => b"mux",
+            Gate::ZERO => b"zero",
+            Gate::ONE => b"one",
+            _ => b"",
         }
     }
 

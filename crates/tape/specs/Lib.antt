@@ -1,4 +1,5 @@
 pub mod Layout
+pub mod Kinds
 pub mod Encoding
 pub mod Written
 pub mod Lies

@@ -3,8 +3,10 @@ use Rattle.std.specs.Prelude.{◌≡◌, refl, List, [], ◌∷◌, ◌++◌, �
 use Rattle.std.proofs.Common.{sym, ap, ◌∙◌, append_assoc, add-zero, add-one, arith, length-append, length-set, take-append-drop, take-suc-set, drop-set-lt}
 use Rattle.std.proofs.lemmas.List.{set_comm}
 use Rattle.rules.specs.Outcome.{Out, ok, refuse}
+use Rattle.std.specs.Prelude.{Result, Ok, Err}
+use Rattle.rules.specs.Reasons.{number}
+use Rattle.rules.specs.declared.Refusal.{Refusal}
 use Rattle.tape.specs.declared.Read.{Read}
-use Rattle.tape.specs.declared.Read.TheVariants.{Done, No}
 
 -- the words ws, stored one after another from `to` on
 unfoldable pub put : List ℕ → ℕ → List ℕ → List ℕ
@@ -25,14 +27,9 @@ pub record Got {A : Type 0} (size : A → ℕ) (words : A → List ℕ) (o : Out
 
 -- what a reader answers and leaves on the tape, where the rules' reader gives o: the same refusal, or the value's words.
 -- A refusal says nothing of the tape
-abbrev pub Gives : {A : Type 0} → (A → ℕ) → (A → List ℕ) → Out (A × ℕ) → List ℕ → ℕ → List ℕ → Read → Type 0
-Gives size words o t to u (Done n m c) = Got size words o t to u n m c
-Gives size words o t to u (No k p) = o ≡ refuse k p
-
--- a reader that writes nothing: the value is made of the place and the end
-abbrev pub Tells : {A : Type 0} → (ℕ → ℕ → A) → Out (A × ℕ) → Read → Type 0
-Tells make o (Done n p c) = o ≡ ok (make p n, n)
-Tells make o (No k p) = o ≡ refuse k p
+abbrev pub Gives : {A : Type 0} → (A → ℕ) → (A → List ℕ) → Out (A × ℕ) → List ℕ → ℕ → List ℕ → Result Read Refusal → Type 0
+Gives size words o t to u (Ok r) = Got size words o t to u r.next r.end r.names
+Gives size words o t to u (Err e) = o ≡ refuse (number e.reason) e.place
 
 -- ---- words stored one after another
 

@@ -1,55 +1,58 @@
 // The tape: a program as words in the lent work table. The encoding stands in specs/Encoding, the layout of a word in specs/Layout.
 #![tactic(auto)]
 
-ghost use Rattle.std.specs.Prelude.{◌≡◌, ◌+◌, ◌*◌, ◌-◌, ◌<◌, ◌≤◌, length, set, replicate};
+ghost use Rattle.std.specs.Prelude.{◌≡◌, ◌+◌, ◌*◌, ◌-◌, ◌<◌, ◌≤◌, length, set, eqb};
 ghost use Rattle.tape.specs.Layout.{pack, kind_of, head_in, value_of, spelt};
+ghost use Rattle.tape.specs.Kinds.{code};
 
-// What a reader answers: where the thing ends in the text, where its words end on the tape, and how many names its block has then (0
-// where that does not matter); or a refusal's number and place.
-#[derive(Clone, Copy)]
-pub enum Read {
-    Done(usize, usize, usize),
-    No(usize, usize),
+// What a reader has read: where it ends in the text, where its words end on the tape, and how many names its block has then (0 where that
+// does not matter).
+#[derive(Clone, Copy, PartialEq, Eq, Debug)]
+pub struct Read {
+    pub next: usize,
+    pub end: usize,
+    pub names: usize,
 }
 
 // What a word of the tape is about.
-#[derive(Clone, Copy)]
-pub struct Kind(pub u32);
+#[derive(Clone, Copy, PartialEq, Eq, Debug)]
+pub enum Kind {
+    Number,
+    Name,
+    Bracket,
+    Call,
+    Input,
+    Output,
+    Loop,
+    Index,
+    Body,
+    Block,
+    Generic,
+    In,
+    Out,
+    Var,
+}
 
 impl Kind {
-    pub const NUMBER: u32 = 0;
-
-    pub const NAME: u32 = 1;
-
-    pub const BRACKET: u32 = 2;
-
-    pub const CALL: u32 = 3;
-
-    pub const INPUT: u32 = 4;
-
-    pub const OUTPUT: u32 = 5;
-
-    pub const LOOP: u32 = 6;
-
-    pub const INDEX: u32 = 7;
-
-    pub const BODY: u32 = 8;
-
-    pub const BLOCK: u32 = 9;
-
-    pub const GENERIC: u32 = 10;
-
-    pub const IN: u32 = 11;
-
-    pub const OUT: u32 = 12;
-
-    pub const VAR: u32 = 13;
+    // Its number in a word.
+    pub fn code(self) -> u32
+        ensures { (result ≡ code self) × (result < 16) }
+    {
+        self as u32
+    }
 }
 
 pub fn kind_of(word: u32) -> u32
     ensures { result ≡ kind_of word }
 {
     word / 268435456
+}
+
+// Whether a word is of a kind.
+pub fn is(word: u32, kind: Kind) -> bool
+    ensures { result ≡ eqb (kind_of word) (code kind) }
+{
+    kind_of(word) == kind.code()
 }
 
 pub fn head_of(word: u32) -> u32
@@ -65,28 +68,17 @@ pub fn value_of(word: u32) -> usize
 }
 
 // A word of the tape.
-pub fn store(tape: &mut [u32], to: usize, kind: u32, head: u32, value: usize)
-    requires { (to < length tape.old) × (kind < 16) × (head < 8) × (value < 33554432) }
-    ensures { tape.new ≡ set tape.old to (pack kind head value) }
+pub fn store(tape: &mut [u32], to: usize, kind: Kind, head: u32, value: usize)
+    requires { (to < length tape.old) × (head < 8) × (value < 33554432) }
+    ensures { tape.new ≡ set tape.old to (pack (code kind) head value) }
 {
-    tape[to] = (kind * 8 + head) * 33554432 + value as u32;
+    tape[to] = (kind.code() * 8 + head) * 33554432 + value as u32;
 }
 
 // The word of a name that goes from p to q.
-pub fn store_name(tape: &mut [u32], to: usize, kind: u32, head: u32, p: usize, q: usize)
-    requires { (to < length tape.old) × (kind < 16) × (head < 8) × (p < 32768) × (p ≤ q) × (q ≤ p + 16) }
-    ensures { tape.new ≡ set tape.old to (pack kind head (spelt p q)) }
+pub fn store_name(tape: &mut [u32], to: usize, kind: Kind, head: u32, p: usize, q: usize)
+    requires { (to < length tape.old) × (head < 8) × (p < 32768) × (p ≤ q) × (q ≤ p + 16) }
+    ensures { tape.new ≡ set tape.old to (pack (code kind) head (spelt p q)) }
 {
     store(tape, to, kind, head, p * 32 + (q - p));
-}
-
-// All zeros, as the table is handed back.
-pub fn clear(tape: &mut [u32])
-    ensures { tape.new ≡ replicate (length tape.old) 0 }
-{
-    let mut i = 0;
-    while i < tape.len() {
-        tape[i] = 0;
-        i += 1;
-    }
 }
