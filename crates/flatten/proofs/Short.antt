@@ -2,8 +2,7 @@
 use Rattle.std.proofs.Common.{◌≡◌, refl, ℕ, List, length, ◌<◌}
 use Rattle.rules.specs.Text.{zeros}
 use Rattle.rules.specs.Flatten.{flatten}
-use Rattle.flatten.specs.declared.Flattened.{Flattened}
-use Rattle.flatten.specs.Promise.{seen}
+use Rattle.flatten.specs.Promise.{Flattened, seen}
 use Rattle.flatten.specs.Ways.{refused-is, net-short, flatten-is}
 
 pub short_netlist : (text net : List ℕ) (work : ℕ) (r : Flattened) → r ≡ record { number = 1; place = 0; steps = 0 } → net ≡ zeros (length net) → length net < 5124

@@ -18,8 +18,7 @@ use Rattle.rules.proofs.Laws.Ways.{way}
 use Rattle.netlist.specs.Answers.{Told}
 use Rattle.run.specs.Ran.{Ran}
 use Rattle.run.specs.Follows.{Had, run-had, run-shows, shown-holds, the-outputs, one, no_other}
-use Rattle.flatten.specs.declared.Flattened.{Flattened}
-use Rattle.flatten.specs.Promise.{Flattens}
+use Rattle.flatten.specs.Promise.{Flattened, Flattens}
 use Rattle.flatten.specs.Starts.{Accepted, number-0, number-1, number-2, placeless as nowhere, whole}
 
 -- ---- over the definition

@@ -17,8 +17,7 @@ use Rattle.rules.proofs.Laws.Rings.{choice}
 use Rattle.clear.specs.Zeros.{zeros-at, zeros-long}
 use Rattle.netlist.specs.Answers.{Told}
 use Rattle.run.specs.Ran.{Ran}
-use Rattle.flatten.specs.declared.Flattened.{Flattened}
-use Rattle.flatten.specs.Promise.{Flattens}
+use Rattle.flatten.specs.Promise.{Flattened, Flattens}
 use Rattle.flatten.specs.Starts.{Accepted}
 use Rattle.flatten.specs.Code.{done-exactly, same_bits}
 use Rattle.flatten.specs.Table.{gives, Is, Table, table, Limits, limits, mux}

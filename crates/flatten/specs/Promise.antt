@@ -3,7 +3,7 @@ use Rattle.std.specs.Prelude.{◌≡◌, ℕ, List, length}
 use Rattle.std.proofs.Common.{sym, ap, ◌∙◌}
 use Rattle.rules.specs.Text.{zeros}
 use Rattle.rules.specs.Flatten.{Answer, flatten}
-use Rattle.flatten.specs.declared.Flattened.{Flattened}
+pub use Rattle.flatten.specs.Told.{Flattened, told}
 
 -- number, place and steps, with the words of the lent netlist
 abbrev pub seen : Flattened → List ℕ → Answer

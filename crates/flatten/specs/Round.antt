@@ -8,8 +8,7 @@ use Rattle.netlist.specs.Answers.{Told, done}
 use Rattle.write.specs.Wrote.{Wrote, wrote, wrote_one}
 use Rattle.read.specs.WasRead.{WasRead}
 use Rattle.read.specs.Round.{written, read_back}
-use Rattle.flatten.specs.declared.Flattened.{Flattened}
-use Rattle.flatten.specs.Promise.{Flattens}
+use Rattle.flatten.specs.Promise.{Flattened, Flattens}
 use Rattle.flatten.specs.Code.{well-formed, held}
 
 -- `flatten` answered 0, and `write` told t and left `flat` in a text lent with `len` bytes, enough of them

@@ -33,8 +33,7 @@ use Rattle.run.specs.Ran.{Ran}
 use Rattle.run.specs.Known.{shown-one}
 use Rattle.run.specs.Follows.{run-shows}
 use Rattle.write.specs.Wrote.{Wrote}
-use Rattle.flatten.specs.declared.Flattened.{Flattened}
-use Rattle.flatten.specs.Promise.{Flattens, seen}
+use Rattle.flatten.specs.Promise.{Flattened, Flattens, seen}
 use Rattle.flatten.specs.Starts.{starts}
 use Rattle.flatten.specs.Code.{well-formed}
 use Rattle.flatten.specs.Round.{is-written}

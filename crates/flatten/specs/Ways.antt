@@ -22,8 +22,7 @@ use Rattle.places.specs.Handed.{held}
 use Rattle.unfolding.specs.declared.Unfolded.{Unfolded as Told}
 use Rattle.unfolding.specs.declared.Unfolded.TheVariants.{Steps, No as Not}
 use Rattle.unfolding.specs.Nets.{Nets, MainHeld}
-use Rattle.flatten.specs.declared.Flattened.{Flattened}
-use Rattle.flatten.specs.Promise.{seen}
+use Rattle.flatten.specs.Promise.{Flattened, seen}
 
 -- of a text that was read: its names, then its unfolding
 abbrev pub after-reading : List ℕ → Spelled → Out Unfolded
