@@ -2,7 +2,7 @@
 use Rattle.std.specs.Prelude.{ℕ}
 use Rattle.tape.specs.Layout.{NUMBER, NAME, BRACKET, CALL, INPUT, OUTPUT, LOOP, INDEX, BODY, BLOCK, GENERIC, IN, OUT, VAR}
 use Rattle.tape.specs.declared.Kind.{Kind}
-use Rattle.tape.specs.declared.Kind.TheVariants.{Number, Name, Bracket, Call, Input, Output, Loop, Index, Body, Block, Generic, In, Out, Var}
+use Rattle.tape.specs.declared.Kind.TheVariants.{Number, Name, Bracket, Call, Input, Output, Loop, Index, Body, Block, Generic, In, Out, Var, FirstFree, SecondFree}
 
 abbrev pub code : Kind → ℕ
 code Number = NUMBER
@@ -19,3 +19,5 @@ code Generic = GENERIC
 code In = IN
 code Out = OUT
 code Var = VAR
+code FirstFree = 14
+code SecondFree = 15

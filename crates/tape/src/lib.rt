@@ -14,7 +14,7 @@ pub struct Read {
     pub names: usize,
 }
 
-// What a word of the tape is about.
+// What a word of the tape is about. A word has room for sixteen kinds, and two of them are free.
 #[derive(Clone, Copy, PartialEq, Eq, Debug)]
 pub enum Kind {
     Number,
@@ -31,6 +31,8 @@ pub enum Kind {
     In,
     Out,
     Var,
+    FirstFree,
+    SecondFree,
 }
 
 impl Kind {
