@@ -1,28 +1,25 @@
 -- How the code comes to its answer, layer by layer. Assumes nothing.
-use Rattle.std.specs.Prelude.{◌≡◌, refl, ℕ, ◌≤◌, ◌<◌, Bool, true, false, ◌&&◌, List, length, leb}
+use Rattle.std.specs.Prelude.{◌≡◌, refl, ℕ, ◌≤◌, ◌<◌, Bool, true, false, ◌&&◌, List, length, leb, Result, Ok, Err}
 use Rattle.std.proofs.Common.{sym, ap, ◌∙◌, subst, le-leb}
 use Rattle.std.proofs.lemmas.Bool.{lt-leb}
 use Rattle.rules.specs.Text.{zeros}
 use Rattle.rules.specs.Outcome.{Out, ok, refuse, ◌>>=◌, need}
 use Rattle.rules.specs.Syntax.{Spelled, Program}
+use Rattle.rules.specs.Reasons.{number}
+use Rattle.rules.specs.declared.Refusal.{Refusal}
 use Rattle.rules.specs.Grammar.{grammar}
 use Rattle.rules.specs.Resolve.{names}
 use Rattle.rules.specs.Unfold.{Unfolded, unfold_main}
 use Rattle.rules.specs.Flatten.{program, flattened, answer, flatten}
 use Rattle.rules.proofs.Laws.Outcomes.{inv}
 use Rattle.tape.specs.declared.Read.{Read}
-use Rattle.tape.specs.declared.Read.TheVariants.{Done, No}
 use Rattle.grammar.specs.Promise.{read_text, Reads}
-use Rattle.sweep.specs.declared.Named.{Named}
-use Rattle.sweep.specs.declared.Named.TheVariants.{Done as Right, No as Wrong}
 use Rattle.sweep.specs.Resolves.{Holds, Resolves}
 use Rattle.names.specs.Handed.{handed}
 use Rattle.places.specs.Held.{Held}
 use Rattle.places.specs.Handed.{held}
-use Rattle.unfolding.specs.declared.Unfolded.{Unfolded as Told}
-use Rattle.unfolding.specs.declared.Unfolded.TheVariants.{Steps, No as Not}
 use Rattle.unfolding.specs.Nets.{Nets, MainHeld}
-use Rattle.flatten.specs.Promise.{Flattened, seen}
+use Rattle.flatten.specs.Promise.{told, seen}
 
 -- of a text that was read: its names, then its unfolding
 abbrev pub after-reading : List ℕ → Spelled → Out Unfolded
@@ -36,26 +33,28 @@ pub record WasRead (s t : List ℕ) (end : ℕ) : Type 0 where
 
 -- ---- answers
 
-pub refused-is : {o : Out Unfolded} {n p : ℕ} (len : ℕ) {words : List ℕ} → words ≡ zeros len → o ≡ refuse n p → seen (record { number = n; place = p; steps = 0 }) words ≡ answer len o
+pub refused-is : {o : Out Unfolded} {e : Refusal} (len : ℕ) {words : List ℕ} → words ≡ zeros len → o ≡ refuse (number e.reason) e.place → seen (told (Err e)) words ≡ answer len o
 unfolding answer
 refused-is len w e = rw (e, w)
 
-pub done-is : (o : Out Unfolded) {r : Told} {n : ℕ} (len : ℕ) (words : List ℕ) → r ≡ Steps n → Nets o len r words → seen (record { number = 0; place = 0; steps = n }) words ≡ answer len o
+-- what the unfolding left, where it came to an end
+pub done-is : (o : Out Unfolded) {r : Result ℕ Refusal} {n : ℕ} (len : ℕ) (words : List ℕ) → r ≡ Ok n → Nets o len r words → seen (told r) words ≡ answer len o
 unfolding answer Nets
-done-is o {r} {n} len words e a = go (subst (λ r. Nets o len r words) e a)
+done-is o {r} {n} len words e a = rw e (go (subst (λ r. Nets o len r words) e a))
   where
-    go : Nets o len (Steps n) words → seen (record { number = 0; place = 0; steps = n }) words ≡ answer len o
+    go : Nets o len (Ok n) words → seen (told (Ok n)) words ≡ answer len o
     go (u, is, steps, all) = rw (is, steps, all)
 
-pub not_is : {o : Out Unfolded} {r : Told} {n p : ℕ} (len : ℕ) (words : List ℕ) → r ≡ Not n p → Nets o len r words → o ≡ refuse n p
+-- and where it was refused, and then its words are cleared
+pub no-is : (o : Out Unfolded) {r : Result ℕ Refusal} {d : Refusal} (len : ℕ) (words : List ℕ) {cleared : List ℕ} → r ≡ Err d → Nets o len r words → cleared ≡ zeros len → seen (told r) cleared ≡ answer len o
 unfolding Nets
-not_is {o} len words e a = subst (λ r. Nets o len r words) e a
+no-is o {r} {d} len words {cleared} e a z = rw e (refused-is {o = o} len z (subst (λ r. Nets o len r words) e a))
 
 -- ---- names
 
-pub named-wrong : (s : List ℕ) (Bs : Spelled) (t u : List ℕ) {r : Named} {n p : ℕ} → r ≡ Wrong n p → Resolves s Bs t u r → (names (length s) Bs >>= unfold_main) ≡ refuse n p
+pub named-wrong : (s : List ℕ) (Bs : Spelled) (t u : List ℕ) {r : Result ℕ Refusal} {d : Refusal} → r ≡ Err d → Resolves s Bs t u r → (names (length s) Bs >>= unfold_main) ≡ refuse (number d.reason) d.place
 unfolding ◌>>=◌
-named-wrong s Bs t u {n = n} {p = p} e a = let h : names (length s) Bs ≡ refuse n p = subst (Resolves s Bs t u) e a in rw h
+named-wrong s Bs t u {d = d} e a = let h : names (length s) Bs ≡ refuse (number d.reason) d.place = subst (Resolves s Bs t u) e a in rw h
 
 -- the names are right: the resolved program lies on the table
 pub record Named-right (s : List ℕ) (Bs : Spelled) (u : List ℕ) (end m : ℕ) : Type 0 where
@@ -64,7 +63,7 @@ pub record Named-right (s : List ℕ) (Bs : Spelled) (u : List ℕ) (end m : ℕ
   pub main : program.main ≡ m
   pub is : (names (length s) Bs >>= unfold_main) ≡ unfold_main program
 
-pub named-right : {s : List ℕ} {Bs : Spelled} {t : List ℕ} (u : List ℕ) {r : Named} {end m : ℕ} → r ≡ Right m → grammar s ≡ ok Bs → Holds s t end Bs → Resolves s Bs t u r → Named-right s Bs u end m
+pub named-right : {s : List ℕ} {Bs : Spelled} {t : List ℕ} (u : List ℕ) {r : Result ℕ Refusal} {end m : ℕ} → r ≡ Ok m → grammar s ≡ ok Bs → Holds s t end Bs → Resolves s Bs t u r → Named-right s Bs u end m
 unfolding ◌>>=◌
 named-right {s} {Bs} {t} u e g h a =
     let x = subst (Resolves s Bs t u) e a in
@@ -95,9 +94,9 @@ net-enough : (text : List ℕ) (work net : ℕ) → 5124 ≤ net → flattened t
 unfolding flattened program read_text
 net-enough text work net h = rw (le-leb 5124 net h) (layers (leb 16384 work) (leb (length text) 16384) (grammar text) (names (length text)) unfold_main)
 
-pub read_no : (text before after : List ℕ) {r : Read} {n p : ℕ} (net : ℕ) → 5124 ≤ net → r ≡ No n p → Reads text before r after → flattened text (length before) net ≡ refuse n p
+pub read_no : (text before after : List ℕ) {r : Result Read Refusal} {d : Refusal} (net : ℕ) → 5124 ≤ net → r ≡ Err d → Reads text before r after → flattened text (length before) net ≡ refuse (number d.reason) d.place
 unfolding ◌>>=◌
-read_no text before after {n = n} {p = p} net h e a =
+read_no text before after net h e a =
     let x = subst (λ r. Reads text before r after) e a in
     net-enough text (length before) net h ∙ rw x.0
 
@@ -112,14 +111,14 @@ read-grammar : (text : List ℕ) (table : ℕ) {Bs : Spelled} → read_text text
 unfolding read_text
 read-grammar text table e = inv _ _ e λ _ _ e₁. inv _ _ e₁ λ _ _ e₂. e₂
 
-pub read_right : (text before after : List ℕ) {r : Read} {x end c : ℕ} → r ≡ Done x end c → Reads text before r after → Read-right text before after end
+pub read_right : (text before after : List ℕ) {r : Result Read Refusal} {d : Read} → r ≡ Ok d → Reads text before r after → Read-right text before after d.end
 unfolding ◌>>=◌
-read_right text before after {x = x} {end = end} {c = c} e a =
+read_right text before after {d = d} e a =
     let s = subst (λ r. Reads text before r after) e a in
     record {
       program = s.program;
       reads = read-grammar text (length before) s.reads;
-      holds = handed text before after x end c s;
+      holds = handed text before after d s;
       is = λ net h. net-enough text (length before) net h ∙ rw s.reads;
     }
 
@@ -127,6 +126,6 @@ pub was_read : {text before after : List ℕ} {end : ℕ} → Read-right text be
 was_read r = record { program = r.program; reads = r.reads; holds = r.holds }
 
 -- the whole
-pub flatten-is : (text words : List ℕ) (work net : ℕ) {r : Flattened} {o : Out Unfolded} → flattened text work net ≡ o → seen r words ≡ answer net o → seen r words ≡ flatten text work net
+pub flatten-is : (text words : List ℕ) (work net : ℕ) {r : Result ℕ Refusal} {o : Out Unfolded} → flattened text work net ≡ o → seen (told r) words ≡ answer net o → seen (told r) words ≡ flatten text work net
 unfolding flatten
 flatten-is text words work net e a = a ∙ ap (answer net) (sym e)
