@@ -20,7 +20,7 @@ drop-zeros (suc n) (suc k) = let e : suc n - suc k ≡ n - k = omega arith in rw
 -- ---- while memory is being cleared
 
 -- the first n cells are cleared, and one more is
-pub cleared-more : {X : Type 0} (v : X) (n : ℕ) (d : List X) → n < length d → set (replicate n v ++ drop n d) n v ≡ replicate (n + 1) v ++ drop (n + 1) d
-cleared-more v n [] h = absurd (omega arith)
-cleared-more v zero (x ∷ d) h = refl
-cleared-more v (suc n) (x ∷ d) h = let e : suc n + 1 ≡ suc (n + 1) = omega arith in rw e (ap (λ l. v ∷ l) (cleared-more v n d (omega arith)))
+pub cleared_more : {X : Type 0} (v : X) (n : ℕ) (d : List X) → n < length d → set (replicate n v ++ drop n d) n v ≡ replicate (n + 1) v ++ drop (n + 1) d
+cleared_more v n [] h = absurd (omega arith)
+cleared_more v zero (x ∷ d) h = refl
+cleared_more v (suc n) (x ∷ d) h = let e : suc n + 1 ≡ suc (n + 1) = omega arith in rw e (ap (λ l. v ∷ l) (cleared_more v n d (omega arith)))

@@ -29,6 +29,7 @@ impl Cell for u32 {
 }
 
 // All zeros, whatever stood there.
+#[tactic(auto, using(crate::specs::Zeros::cleared_more))]
 pub fn all<T: Cell>(lent: &mut [T])
     ensures { lent.new ≡ replicate (length lent.old) T.ZERO }
 {
