@@ -5,7 +5,7 @@ use Rattle.rules.specs.Text.{joined}
 use Rattle.rules.specs.Flat.{flat_text}
 use Rattle.netlist.specs.Decides.{Decides, decides-one}
 use Rattle.compare.specs.Match.{Starts}
-use Rattle.compare.specs.Walk.{call_of}
+use Rattle.write.specs.Pieces.{call_of}
 
 -- whether a call of the kind stands at the place
 abbrev pub Calls : List ℕ → ℕ → ℕ → Bool → Type 0

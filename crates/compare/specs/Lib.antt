@@ -1,3 +1,3 @@
 pub mod Match
-pub mod Walk
+pub mod Rest
 pub mod Compared

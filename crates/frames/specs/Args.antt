@@ -1,5 +1,5 @@
 -- An argument on the tape, and the wires it stands for. Assumes nothing.
-use Rattle.std.specs.Prelude.{◌≡◌, refl, ℕ, suc, ◌+◌, ◌≤◌, ◌<◌, false, List, length, get_or, ℤ, pos, negsuc, ◌-ℤ◌, ltb}
+use Rattle.std.specs.Prelude.{◌≡◌, refl, ℕ, suc, ◌+◌, ◌≤◌, ◌<◌, false, List, length, get_or, ℤ, pos, negsuc, ◌-ℤ◌, ltb, Some, None, Result, Ok, Err}
 use Rattle.std.proofs.Common.{sym, ap, ◌∙◌, subst, arith, lt-ltb, le-ltb}
 use Rattle.rules.specs.Outcome.{Out, ok, refuse, ◌>>=◌, need}
 use Rattle.rules.specs.Syntax.{Exp, Arg, whole, part, Callee}
@@ -11,15 +11,15 @@ use Rattle.tape.specs.Layout.{head_in, value_of, head-of, value-of}
 use Rattle.tape.specs.Encoding.{exp_w, arg_w}
 use Rattle.tape.specs.Resolved.{slot_w}
 use Rattle.tape.specs.Lies.{lies-first, lies-rest}
-use Rattle.values.specs.declared.Apart.TheVariants.{By, Not}
 use Rattle.values.specs.Factors.{Grouped}
 use Rattle.values.specs.Here.{goes_on, Here}
 use Rattle.values.specs.Sizes.{apart_of}
+use Rattle.rules.specs.declared.Reason.{Reason}
+use Rattle.rules.specs.Reasons.{number as number_of}
 use Rattle.frames.specs.declared.Frame.{Frame}
 use Rattle.frames.specs.declared.Found.{Found}
-use Rattle.frames.specs.declared.Found.TheVariants.{At, Wrong}
 use Rattle.frames.specs.Rows.{Alone}
-use Rattle.frames.specs.Stands.{Stands, name-is, eval-knows}
+use Rattle.frames.specs.Stands.{Stands, vector_at, name-is, eval-knows}
 
 -- the name that an argument names
 unfoldable pub arg_name : Arg ℕ → ℕ
@@ -44,14 +44,14 @@ pub record WrittenArg (t : List ℕ) (at end : ℕ) (f : Frame) : Type 0 where
   pub here : HereArg t at end kind (length names) arg
 
 -- the rules' outcome, and the place after the words
-unfoldable pub Finds : Out Range → ℕ → Found → Type 0
-Finds o n (At b l m) = (o ≡ ok (record { base = b; len = l })) × (m ≡ n)
-Finds o n (Wrong k) = o ≡ refuse k 0
+unfoldable pub Finds : Out Range → ℕ → Result Found Reason → Type 0
+Finds o n (Ok r) = (o ≡ ok (record { base = r.base; len = r.len })) × (r.next ≡ n)
+Finds o n (Err e) = o ≡ refuse (number_of e) 0
 
 -- every wire found is one of the 1,536
-unfoldable pub Fits : Found → Type 0
-Fits (At b l m) = b + l ≤ 1536
-Fits (Wrong k) = Unit {0}
+unfoldable pub Fits : Result Found Reason → Type 0
+Fits (Ok r) = r.base + r.len ≤ 1536
+Fits (Err e) = Unit {0}
 
 -- ---- what the code meets
 
@@ -109,41 +109,41 @@ a-part (part x e) l h _ = part-is h
 
 module _ {f : Frame} {ρ : Env} {σ : Names Range} (s : Stands f ρ σ) {t : List ℕ} {at end kind : ℕ} where
   pub finds-whole : (a : Arg ℕ) → HereArg t at end kind (length σ) a → head_in (get_or t at 0) ≡ 0
-      → Finds (resolve Wires ρ σ a) (at + length (arg_w slot_w kind a)) (At (get_or f.base (arg_name a) 0) (get_or f.len (arg_name a) 0) (at + 1))
+      → Finds (resolve Wires ρ σ a) (at + length (arg_w slot_w kind a)) (Ok (record { base = (vector_at f (arg_name a)).base; len = (vector_at f (arg_name a)).len; next = at + 1 }))
   unfolding arg_w arg_name Finds resolve ◌>>=◌
   finds-whole (whole x) h e = (rw (name-is s x h.slot), refl)
   finds-whole (part x d) h e = absurd (omega (arith, head-part s.few h))
 
   module _ (a : Arg ℕ) (h : HereArg t at end kind (length σ) a) (p : Part t at end kind a) where
-    pub finds-beyond : eval (generics f.value) p.exp ≡ refuse 10 0 → resolve Wires ρ σ a ≡ refuse 10 0
+    pub finds-beyond : eval (generics f.values) p.exp ≡ refuse 10 0 → resolve Wires ρ σ a ≡ refuse 10 0
     unfolding resolve ◌>>=◌
     finds-beyond e = rw (p.is, name-is s (arg_name a) h.slot, ← (eval-knows 2 p.exp s.value p.grouped), e)
 
-    steps : (v : ℤ) → eval (generics f.value) p.exp ≡ ok v
-        → resolve Wires ρ σ a ≡ (offset (v -ℤ get_or f.low (arg_name a) (pos 0)) >>= λ i. need (ltb i (get_or f.len (arg_name a) 0)) 12 >>= λ _. ok (record { base = get_or f.base (arg_name a) 0 + i; len = 1 }))
+    steps : (v : ℤ) → eval (generics f.values) p.exp ≡ ok v
+        → resolve Wires ρ σ a ≡ (offset (v -ℤ (vector_at f (arg_name a)).low) >>= λ i. need (ltb i ((vector_at f (arg_name a)).len)) 12 >>= λ _. ok (record { base = (vector_at f (arg_name a)).base + i; len = 1 }))
     unfolding resolve ◌>>=◌ arg_name
     steps v e = rw (p.is, name-is s (arg_name a) h.slot, ← (eval-knows 2 p.exp s.value p.grouped), e)
 
-below : {A : Type 0} (d : ℤ) (K : ℕ → Out A) → Not ≡ apart_of d → (offset d >>= K) ≡ refuse 12 0
+below : {A : Type 0} (d : ℤ) (K : ℕ → Out A) → None ≡ apart_of d → (offset d >>= K) ≡ refuse 12 0
 unfolding apart_of offset ◌>>=◌
 below (pos k) K e = let z : ◌≡◌ {A = ℕ} 0 1 = cc in absurd (omega arith)
 below (negsuc k) K e = refl
 
-reached : {A : Type 0} (d : ℤ) (K : ℕ → Out A) {i : ℕ} → By i ≡ apart_of d → (offset d >>= K) ≡ K i
+reached : {A : Type 0} (d : ℤ) (K : ℕ → Out A) {i : ℕ} → Some i ≡ apart_of d → (offset d >>= K) ≡ K i
 unfolding apart_of offset ◌>>=◌
 reached (pos k) K {i} e = let q : k ≡ i = cc in ap K q
 reached (negsuc k) K e = let z : ◌≡◌ {A = ℕ} 0 1 = cc in absurd (omega arith)
 
 module _ {f : Frame} {ρ : Env} {σ : Names Range} (s : Stands f ρ σ) {t : List ℕ} {at end kind : ℕ} (a : Arg ℕ) (h : HereArg t at end kind (length σ) a) (p : Part t at end kind a) (v : ℤ)
-    (e : eval (generics f.value) p.exp ≡ ok v) where
-  pub finds-below : Not ≡ apart_of (v -ℤ get_or f.low (arg_name a) (pos 0)) → resolve Wires ρ σ a ≡ refuse 12 0
+    (e : eval (generics f.values) p.exp ≡ ok v) where
+  pub finds-below : None ≡ apart_of (v -ℤ (vector_at f (arg_name a)).low) → resolve Wires ρ σ a ≡ refuse 12 0
   finds-below n = steps s a h p v e ∙ below _ _ n
 
-  pub finds-above : {i : ℕ} → By i ≡ apart_of (v -ℤ get_or f.low (arg_name a) (pos 0)) → get_or f.len (arg_name a) 0 ≤ i → resolve Wires ρ σ a ≡ refuse 12 0
+  pub finds-above : {i : ℕ} → Some i ≡ apart_of (v -ℤ (vector_at f (arg_name a)).low) → (vector_at f (arg_name a)).len ≤ i → resolve Wires ρ σ a ≡ refuse 12 0
   unfolding need ◌>>=◌
-  finds-above {i} n l = steps s a h p v e ∙ reached _ _ n ∙ rw (le-ltb i (get_or f.len (arg_name a) 0) l)
+  finds-above {i} n l = steps s a h p v e ∙ reached _ _ n ∙ rw (le-ltb i ((vector_at f (arg_name a)).len) l)
 
-  pub finds-one : {i : ℕ} → By i ≡ apart_of (v -ℤ get_or f.low (arg_name a) (pos 0)) → i < get_or f.len (arg_name a) 0
-      → resolve Wires ρ σ a ≡ ok (record { base = get_or f.base (arg_name a) 0 + i; len = 1 })
+  pub finds-one : {i : ℕ} → Some i ≡ apart_of (v -ℤ (vector_at f (arg_name a)).low) → i < (vector_at f (arg_name a)).len
+      → resolve Wires ρ σ a ≡ ok (record { base = (vector_at f (arg_name a)).base + i; len = 1 })
   unfolding need ◌>>=◌
-  finds-one {i} n l = steps s a h p v e ∙ reached _ _ n ∙ rw (lt-ltb i (get_or f.len (arg_name a) 0) l)
+  finds-one {i} n l = steps s a h p v e ∙ reached _ _ n ∙ rw (lt-ltb i ((vector_at f (arg_name a)).len) l)

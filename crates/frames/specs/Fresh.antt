@@ -1,5 +1,5 @@
 -- Names with fresh wires: the loop over declarations. Assumes nothing.
-use Rattle.std.specs.Prelude.{◌≡◌, refl, ℕ, ◌+◌, ◌/◌, ◌≤◌, ◌<◌, true, false, List, [], ◌∷◌, ◌++◌, map, get_or, set, ℤ, pos}
+use Rattle.std.specs.Prelude.{◌≡◌, refl, ℕ, ◌+◌, ◌/◌, ◌≤◌, ◌<◌, true, false, List, [], ◌∷◌, ◌++◌, map, get_or, set, ℤ, Result, Ok, Err}
 use Rattle.std.proofs.Common.{ap, ◌∙◌, arith}
 use Rattle.std.proofs.Math.Path.{subst}
 use Rattle.std.proofs.Math.ListN.{length, length-append}
@@ -15,10 +15,12 @@ use Rattle.tape.specs.Encoding.{list_w, sort_w, decl_w}
 use Rattle.tape.specs.Resolved.{slot_w}
 use Rattle.tape.specs.Lies.{Lies, lies-first}
 use Rattle.frames.specs.declared.Fresh.{Fresh}
-use Rattle.frames.specs.declared.Fresh.TheVariants.{Done, Wrong}
+use Rattle.frames.specs.declared.Vector.{Vector}
+use Rattle.rules.specs.declared.Refusal.{Refusal}
+use Rattle.rules.specs.Reasons.{number as number_of}
 use Rattle.frames.specs.Laid.{column, column-length}
 use Rattle.frames.specs.Rows.{among_of, Alone, Listed, Starts, starting, rest, alone, more, no_more}
-use Rattle.frames.specs.Stands.{base_of, len_of, low_of, Inside}
+use Rattle.frames.specs.Stands.{base_of, len_of, vector_of, no_vector, Inside}
 use Rattle.frames.specs.Lists.{stored}
 use Rattle.frames.specs.Ports.{Declared, decl-starts}
 
@@ -27,17 +29,15 @@ abbrev pub up_to : State → ℕ → State
 up_to s w = record { next = w; steps = s.steps; gates = s.gates }
 
 -- k places are filled with the names σ
-pub record Filled (σ : Names Range) (k : ℕ) (b l : List ℕ) (o : List ℤ) : Type 0 where
+pub record Filled (σ : Names Range) (k : ℕ) (vs : List Vector) : Type 0 where
   pub count : k ≡ length σ
-  pub base : b ≡ column 48 0 (map base_of σ)
-  pub len : l ≡ column 48 0 (map len_of σ)
-  pub low : o ≡ column 48 (pos 0) (map low_of σ)
+  pub names : vs ≡ column 48 no_vector (map vector_of σ)
   pub inside : Inside σ
 
 -- the rules' outcome from the state s, and the place after the words
-unfoldable pub Declares : Out (Names Range × State) → State → ℕ → Fresh → List ℕ → List ℕ → List ℤ → Type 0
-Declares o s n (Done k w m) b l low = (σ : Names Range) × (o ≡ ok (σ, up_to s w)) × (m ≡ n) × (w ≤ 1536) × Filled σ k b l low
-Declares o s n (Wrong q p) b l low = o ≡ refuse q p
+unfoldable pub Declares : Out (Names Range × State) → State → ℕ → Result Fresh Refusal → List Vector → Type 0
+Declares o s n (Ok r) vs = (σ : Names Range) × (o ≡ ok (σ, up_to s r.wires)) × (r.next ≡ n) × (r.wires ≤ 1536) × Filled σ r.filled vs
+Declares o s n (Err e) vs = o ≡ refuse (number_of e.reason) e.place
 
 abbrev pub name_words : ℕ → Decl ℕ → List ℕ
 name_words kind d = decl_w slot_w kind d
@@ -46,33 +46,32 @@ pub record HereDecls (t : List ℕ) (at end kind : ℕ) (ds : List (Decl ℕ)) :
   pub declared : All (Declared kind) ds
   pub listed : Listed t at end kind kind (name_words kind) ds
 
-pub record WrittenDecls (t : List ℕ) (at end kind to : ℕ) (b l : List ℕ) (o : List ℤ) : Type 0 where
+pub record WrittenDecls (t : List ℕ) (at end kind to : ℕ) (vs : List Vector) : Type 0 where
   pub decls : List (Decl ℕ)
   pub names : Names Range
   pub here : HereDecls t at end kind decls
-  pub filled : Filled names to b l o
+  pub filled : Filled names to vs
 
 -- a state with a next wire
 abbrev pub some-state : ℕ → State
 some-state w = record { next = w; steps = 0; gates = [] }
 
-pub filled-full : {σ : Names Range} {k : ℕ} {b l : List ℕ} {o : List ℤ} → Filled σ k b l o → (length b ≡ 48) × (length l ≡ 48) × (length o ≡ 48)
-filled-full {σ} f =
-    (ap length f.base ∙ column-length 48 0 (map base_of σ), ap length f.len ∙ column-length 48 0 (map len_of σ), ap length f.low ∙ column-length 48 (pos 0) (map low_of σ))
+pub filled-full : {σ : Names Range} {k : ℕ} {vs : List Vector} → Filled σ k vs → length vs ≡ 48
+filled-full {σ} f = ap length f.names ∙ column-length 48 no_vector (map vector_of σ)
 
 starts-decls : {t : List ℕ} {end kind : ℕ} → Starts t end kind kind (name_words kind) (Declared kind)
 starts-decls {t} {end} {kind} d i g l s = decl-starts end kind kind g (omega arith) (omega arith) l
 
 -- ---- the loop
 
-pub record Declaring (ρ : Env) (t : List ℕ) (at end kind to : ℕ) (ds : List (Decl ℕ)) (σ : Names Range) (s : State) (i k w : ℕ) (b l : List ℕ) (o : List ℤ) : Type 0 where
+pub record Declaring (ρ : Env) (t : List ℕ) (at end kind to : ℕ) (ds : List (Decl ℕ)) (σ : Names Range) (s : State) (i k w : ℕ) (vs : List Vector) : Type 0 where
   pub left : List (Decl ℕ)
   pub names : Names Range
   pub same : declare ρ ds σ s ≡ declare ρ left names (up_to s w)
   pub sound : All (Declared kind) left
   pub listed : Listed t i end kind kind (name_words kind) left
   pub ends : i + length (list_w (name_words kind) left) ≡ at + length (list_w (name_words kind) ds)
-  pub filled : Filled names k b l o
+  pub filled : Filled names k vs
   pub room : k ≤ to + i
   pub wires : w ≤ 1536
 
@@ -117,11 +116,11 @@ module _ (ρ : Env) (d : Decl ℕ) (ds : List (Decl ℕ)) (σ : Names Range) (s 
   one_on {x} {n} e h = rw (e, le-leb (s.next + n) 1536 h)
 
 module _ {ρ : Env} {t : List ℕ} {at end kind to : ℕ} {ds : List (Decl ℕ)} {σ : Names Range} {s : State} where
-  pub declaring-begin : {w : ℕ} {b l : List ℕ} {o : List ℤ} → HereDecls t at end kind ds → s.next ≡ w → w ≤ 1536 → Filled σ to b l o → Declaring ρ t at end kind to ds σ s at to w b l o
+  pub declaring-begin : {w : ℕ} {vs : List Vector} → HereDecls t at end kind ds → s.next ≡ w → w ≤ 1536 → Filled σ to vs → Declaring ρ t at end kind to ds σ s at to w vs
   declaring-begin h e q f =
       record { left = ds; names = σ; same = rw (← e) refl; sound = h.declared; listed = h.listed; ends = refl; filled = f; room = omega arith; wires = q }
 
-  module _ {i k w : ℕ} {b l : List ℕ} {o : List ℤ} (d : Declaring ρ t at end kind to ds σ s i k w b l o) where
+  module _ {i k w : ℕ} {vs : List Vector} (d : Declaring ρ t at end kind to ds σ s i k w vs) where
     pub declaring-next : among_of t i end kind kind ≡ true → Name t i end kind d.left
     unfolding All
     declaring-next e =
@@ -140,10 +139,10 @@ module _ {ρ : Env} {t : List ℕ} {at end kind to : ℕ} {ds : List (Decl ℕ)}
       pub declaring-full : {x : ℤ} {c p : ℕ} → shape ρ n.decl.sort ≡ ok (record { low = x; size = c }) → p ≡ n.decl.name.place → 1536 < w + c → declare ρ ds σ s ≡ refuse 16 p
       declaring-full e q h = now ∙ one-full ρ n.decl n.tail d.names (up_to s w) e h ∙ rw q
 
-      pub declaring-on : {x : ℤ} {c z j v : ℕ} {b' l' : List ℕ} {o' : List ℤ} → shape ρ n.decl.sort ≡ ok (record { low = x; size = c }) → w + c ≤ 1536 → z ≡ i + length (name_words kind n.decl)
-          → b' ≡ set b k w → l' ≡ set l k c → o' ≡ set o k x → j ≡ k + 1 → v ≡ w + c → Declaring ρ t at end kind to ds σ s z j v b' l' o'
+      pub declaring-on : {x : ℤ} {c z j v : ℕ} {vs' : List Vector} → shape ρ n.decl.sort ≡ ok (record { low = x; size = c }) → w + c ≤ 1536 → z ≡ i + length (name_words kind n.decl)
+          → vs' ≡ set vs k (record { base = w; len = c; low = x }) → j ≡ k + 1 → v ≡ w + c → Declaring ρ t at end kind to ds σ s z j v vs'
       unfolding list_w
-      declaring-on {x} {c} {z} {j} {v} e h q p r u y g =
+      declaring-on {x} {c} {z} {j} {v} e h q p y g =
           let f = d.filled in
           let a : Sig Range = record { low = x; cells = record { base = w; len = c } } in
           let m = subst (Listed t i end kind kind (name_words kind)) n.is d.listed in
@@ -156,16 +155,14 @@ module _ {ρ : Env} {t : List ℕ} {at end kind to : ℕ} {ds : List (Decl ℕ)}
             ends = omega (arith, subst (λ l. i + length (list_w (name_words kind) l) ≡ at + length (list_w (name_words kind) ds)) n.is d.ends, length-append (name_words kind n.decl) (list_w (name_words kind) n.tail));
             filled = record {
               count = omega (arith, f.count, length-append d.names (a ∷ []));
-              base = stored base_of _ 0 d.names a f.base (omega (arith, f.count)) p;
-              len = stored len_of _ 0 d.names a f.len (omega (arith, f.count)) r;
-              low = stored low_of _ 0 d.names a f.low (omega (arith, f.count)) u;
+              names = stored vector_of _ 0 d.names a f.names (omega (arith, f.count)) p;
               inside = inside-more d.names a f.inside h;
             };
             room = omega (arith, d.room, n.some);
             wires = h;
           })
 
-    pub declaring-end : among_of t i end kind kind ≡ false → Declares (declare ρ ds σ s) s (at + length (list_w (name_words kind) ds)) (Done k w i) b l o
+    pub declaring-end : among_of t i end kind kind ≡ false → Declares (declare ρ ds σ s) s (at + length (list_w (name_words kind) ds)) (Ok (record { filled = k; wires = w; next = i })) vs
     unfolding Declares declare list_w
     declaring-end e =
         let z = no_more starts-decls d.left d.listed d.sound e in

@@ -1,13 +1,13 @@
 -- Things stored one after another; what lies past the end of the list is lost. Assumes nothing.
 use Rattle.std.specs.Prelude.{◌≡◌, get_or, set, replicate}
 use Rattle.std.proofs.Math.Path.{refl, ap}
-use Rattle.std.proofs.Common.{sym, ◌∙◌, subst}
+use Rattle.std.proofs.Common.{sym, ◌∙◌, subst, append_assoc, add-one, take-append-drop, take-suc-set, drop-set-lt}
 use Prim.Native.Nat.{ℕ, zero, suc, ◌+◌, ◌≤◌, ◌<◌}
 use Rattle.std.proofs.Math.Nat.{add-zero}
 use native.Mathlib.Omega.{arith}
 use mathlib.Core.List.{List, [], ◌∷◌, ◌++◌}
-use Rattle.std.proofs.Math.ListN.{length, length-set}
-use Rattle.std.proofs.lemmas.List.{length-replicate, get_or-replicate}
+use Rattle.std.proofs.Math.ListN.{length, length-set, take, drop}
+use Rattle.std.proofs.lemmas.List.{length-replicate, get_or-replicate, set-set, set_comm}
 use Rattle.std.proofs.Math.Seq.{get_or-set_same, get_or-set_other}
 
 module _ {A : Type 0} where
@@ -81,3 +81,27 @@ module _ {A : Type 0} where
   column-after m n z xs =
       let e : 0 + length (replicate m z) ≡ m = omega (arith, length-replicate m z) in
       sym (sym (laid-append (replicate m z) xs (replicate n z) 0) ∙ rw (laid-zeros m n 0 z, e))
+
+  -- what stands where, if there is room
+  pub laid-is : (xs t : List A) (to : ℕ) → to + length xs ≤ length t → laid t to xs ≡ take to t ++ (xs ++ drop (to + length xs) t)
+  unfolding laid
+  laid-is [] t to h = rw add-zero (sym (take-append-drop to t))
+  laid-is (x ∷ xs) t to h =
+      let e : to + 1 + length xs ≡ to + suc (length xs) = omega arith in
+      let l : to + 1 + length xs ≤ length (set t to x) = simp length-set (omega arith) in
+      let i : to < length t = omega arith in
+      let j : to < to + suc (length xs) = omega arith in
+      laid-is xs (set t to x) (to + 1) l ∙ rw (e, add-one, take-suc-set t to x i, drop-set-lt (to + suc (length xs)) t to x j, append_assoc)
+
+  -- things stored in place of as many others
+  pub laid-over : (xs ys t : List A) (to : ℕ) → length xs ≡ length ys → laid (laid t to xs) to ys ≡ laid t to ys
+  unfolding laid
+  laid-over [] [] t to e = refl
+  laid-over [] (y ∷ ys) t to e = absurd (omega arith)
+  laid-over (x ∷ xs) [] t to e = absurd (omega arith)
+  laid-over (x ∷ xs) (y ∷ ys) t to e =
+      ap (λ l. laid l (to + 1) ys) (sym (first xs (set t to x) (to + 1) to y (omega arith)) ∙ ap (λ l. laid l (to + 1) xs) (set-set t to x y)) ∙ laid-over xs ys (set t to y) (to + 1) (omega arith)
+    where
+      first : (xs t : List A) (to i : ℕ) (y : A) → i < to → laid (set t i y) to xs ≡ set (laid t to xs) i y
+      first [] t to i y h = refl
+      first (x ∷ xs) t to i y h = ap (λ l. laid l (to + 1) xs) (set_comm t i to y x (λ q. omega (arith, q))) ∙ first xs (set t to x) (to + 1) i y (omega arith)

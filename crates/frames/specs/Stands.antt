@@ -10,6 +10,7 @@ use Rattle.rules.specs.Unfold.{Range}
 use Rattle.rules.proofs.Laws.Spelt.{AllExp, AllSort}
 use Rattle.values.specs.Factors.{Grouped}
 use Rattle.values.specs.Sizes.{GroupedSort}
+use Rattle.frames.specs.declared.Vector.{Vector}
 use Rattle.frames.specs.declared.Frame.{Frame}
 use Rattle.frames.specs.Laid.{column, column-at}
 
@@ -51,8 +52,16 @@ base_of x = x.cells.base
 abbrev pub len_of : Sig Range → ℕ
 len_of x = x.cells.len
 
-abbrev pub low_of : Sig Range → ℤ
-low_of x = x.low
+-- a name's wires, as the code holds them
+abbrev pub vector_of : Sig Range → Vector
+vector_of x = record { base = x.cells.base; len = x.cells.len; low = x.low }
+
+-- what a place holds that is not filled
+abbrev pub no_vector : Vector
+no_vector = record { base = 0; len = 0; low = pos 0 }
+
+abbrev pub sig_of : Vector → Sig Range
+sig_of v = record { low = v.low; cells = record { base = v.base; len = v.len } }
 
 -- every wire of a name is one of the 1,536
 unfoldable pub Inside : Names Range → Type 0
@@ -60,50 +69,42 @@ Inside [] = Unit {0}
 Inside (x ∷ σ) = (base_of x + len_of x ≤ 1536) × Inside σ
 
 pub record Stands (f : Frame) (ρ : Env) (σ : Names Range) : Type 0 where
-  pub value : Knows f.value ρ
-  pub full : length f.value ≡ 48
-  pub base : f.base ≡ column 48 0 (map base_of σ)
-  pub len : f.len ≡ column 48 0 (map len_of σ)
-  pub low : f.low ≡ column 48 (pos 0) (map low_of σ)
+  pub value : Knows f.values ρ
+  pub full : length f.values ≡ 48
+  pub names : f.names ≡ column 48 no_vector (map vector_of σ)
   pub few : length σ ≤ 48
   pub inside : Inside σ
 
 -- the k-th name
-abbrev pub sig_at : Frame → ℕ → Sig Range
-sig_at f k = record { low = get_or f.low k (pos 0); cells = record { base = get_or f.base k 0; len = get_or f.len k 0 } }
+abbrev pub vector_at : Frame → ℕ → Vector
+vector_at f k = get_or f.names k no_vector
 
-nth-is : (σ : Names Range) (k : ℕ) → k < length σ → nth 7 σ k ≡ ok (record { low = get_or (map low_of σ) k (pos 0); cells = record { base = get_or (map base_of σ) k 0; len = get_or (map len_of σ) k 0 } })
+nth-is : (σ : Names Range) (k : ℕ) → k < length σ → nth 7 σ k ≡ ok (sig_of (get_or (map vector_of σ) k no_vector))
 unfolding nth
 nth-is [] k h = absurd (omega arith)
 nth-is (x ∷ σ) zero h = refl
 nth-is (x ∷ σ) (suc k) h = nth-is σ k (omega arith)
 
-inside-at : (σ : Names Range) (k : ℕ) → k < length σ → Inside σ → get_or (map base_of σ) k 0 + get_or (map len_of σ) k 0 ≤ 1536
+inside-at : (σ : Names Range) (k : ℕ) → k < length σ → Inside σ → (get_or (map vector_of σ) k no_vector).base + (get_or (map vector_of σ) k no_vector).len ≤ 1536
 unfolding Inside
 inside-at [] k h i = absurd (omega arith)
 inside-at (x ∷ σ) zero h i = i.0
 inside-at (x ∷ σ) (suc k) h i = inside-at σ k (omega arith) i.1
 
 module _ {f : Frame} {ρ : Env} {σ : Names Range} (s : Stands f ρ σ) (k : ℕ) (h : k < length σ) where
-  pub name-is : nth 7 σ k ≡ ok (sig_at f k)
-  name-is =
-      let l : k < 48 = omega (arith, s.few) in
-      rw (s.low, s.base, s.len, column-at 48 (pos 0) (map low_of σ) k l, column-at 48 0 (map base_of σ) k l, column-at 48 0 (map len_of σ) k l) (nth-is σ k h)
+  pub name-is : nth 7 σ k ≡ ok (sig_of (vector_at f k))
+  name-is = let l : k < 48 = omega (arith, s.few) in rw (s.names, column-at 48 no_vector (map vector_of σ) k l) (nth-is σ k h)
 
-  pub name-inside : get_or f.base k 0 + get_or f.len k 0 ≤ 1536
-  name-inside =
-      let l : k < 48 = omega (arith, s.few) in
-      rw (s.base, s.len, column-at 48 0 (map base_of σ) k l, column-at 48 0 (map len_of σ) k l) (inside-at σ k h s.inside)
+  pub name-inside : (vector_at f k).base + (vector_at f k).len ≤ 1536
+  name-inside = let l : k < 48 = omega (arith, s.few) in rw (s.names, column-at 48 no_vector (map vector_of σ) k l) (inside-at σ k h s.inside)
 
 -- a loop's index is bound
 pub stands-bound : {f : Frame} {ρ : Env} {σ : Names Range} (i : ℕ) (v : ℤ) → i < 48 → Stands f ρ σ
-    → Stands (record { base = f.base; len = f.len; low = f.low; value = set f.value i v }) (bound ρ i v) σ
+    → Stands (record { names = f.names; values = set f.values i v }) (bound ρ i v) σ
 stands-bound {f} i v h s = record {
   value = knows-bound i v s.full h s.value;
-  full = length-set f.value i v ∙ s.full;
-  base = s.base;
-  len = s.len;
-  low = s.low;
+  full = length-set f.values i v ∙ s.full;
+  names = s.names;
   few = s.few;
   inside = s.inside;
 }

@@ -1,183 +1,178 @@
 // One word of a text, where a certain one is wanted.
 #![tactic(auto)]
 
-ghost use Rattle.std.specs.Prelude.{◌≡◌, ℕ, ◌+◌, ◌≤◌, ◌<◌, length};
+ghost use Rattle.std.specs.Prelude.{◌≡◌, ℕ, ◌≤◌, length, IfOk, IfSome};
 ghost use Rattle.rules.specs.Words.{word_at};
 ghost use Rattle.rules.specs.Readers.{spelling, a_name};
 ghost use Rattle.rules.specs.Grammar.{is_sum, is_product};
-ghost use Rattle.tape.specs.Written.{Tells};
-ghost use Rattle.marks.specs.Marks.{mark_at, Spots, Joins, dividing};
+ghost use Rattle.marks.specs.Keys.{code};
+ghost use Rattle.marks.specs.Marks.{Tells, unwanted, mark_at, Spots, Joins, dividing};
 ghost use Rattle.marks.specs.Room.{Past, Named, Joined, Parted};
 
-use rules::Word;
-use tape::Read;
+use rules::{Reason, Refusal, Word};
 
 // Marks by their bytes, reserved words by their numbers, the end of the text by 0: as `key` of the rules has them.
-#[derive(Clone, Copy)]
-pub struct Key(pub usize);
+#[derive(Clone, Copy, PartialEq, Eq, Debug)]
+pub enum Key {
+    Nothing = 0,
+    Block = 1,
+    Var = 2,
+    Begin = 3,
+    End = 4,
+    Generate = 5,
+    For = 6,
+    If = 7,
+    Then = 8,
+    Wire = 9,
+    Vector = 10,
+    Of = 11,
+    Num = 12,
+    Beside = 13,
+    Below = 14,
+    Open = 40,
+    Close = 41,
+    Times = 42,
+    Plus = 43,
+    Comma = 44,
+    Minus = 45,
+    Dots = 46,
+    Colon = 58,
+    Semicolon = 59,
+    Equals = 61,
+    Left = 91,
+    Right = 93,
+}
 
 impl Key {
-    pub const NOTHING: usize = 0;
-
-    pub const BLOCK: usize = 1;
-
-    pub const VAR: usize = 2;
-
-    pub const BEGIN: usize = 3;
-
-    pub const END: usize = 4;
-
-    pub const GENERATE: usize = 5;
-
-    pub const FOR: usize = 6;
-
-    pub const WIRE: usize = 9;
-
-    pub const VECTOR: usize = 10;
-
-    pub const OF: usize = 11;
-
-    pub const NUM: usize = 12;
-
-    pub const OPEN: usize = 40;
-
-    pub const CLOSE: usize = 41;
-
-    pub const TIMES: usize = 42;
-
-    pub const PLUS: usize = 43;
-
-    pub const COMMA: usize = 44;
-
-    pub const MINUS: usize = 45;
-
-    pub const DOTS: usize = 46;
-
-    pub const COLON: usize = 58;
-
-    pub const SEMICOLON: usize = 59;
-
-    pub const EQUALS: usize = 61;
-
-    pub const LEFT: usize = 91;
-
-    pub const RIGHT: usize = 93;
+    pub fn code(self) -> usize
+        ensures { result ≡ code self }
+    {
+        self as usize
+    }
 }
 
-// What stands after an item of a list: the mark that divides (where it ends, its place), the mark that closes (where it ends), or a
-// refusal's number and place.
-#[derive(Clone, Copy)]
+// A word that was wanted: its place, and where it ends.
+#[derive(Clone, Copy, PartialEq, Eq, Debug)]
+pub struct Spot {
+    pub next: usize,
+    pub place: usize,
+}
+
+// A mark that joins: where it ends, and the head of the factor after it.
+#[derive(Clone, Copy, PartialEq, Eq, Debug)]
+pub struct Joint {
+    pub next: usize,
+    pub head: u32,
+}
+
+// What stands after an item of a list: the mark that divides, or the mark that closes, by where it ends.
+#[derive(Clone, Copy, PartialEq, Eq, Debug)]
 pub enum Divided {
-    Another(usize, usize),
+    Another(Spot),
     Last(usize),
-    Wrong(usize, usize),
 }
 
-// The mark or reserved word `code`: where it ends, and its place.
-pub fn mark(text: &[u8], at: usize, code: usize) -> Read
-    requires { at ≤ length text.now }
-    ensures tells { Tells (λ (p n : ℕ). p) (mark_at text.now code at) result }
-    ensures past { Past code (length text.now) at result }
+// The refusal of a word that is not wanted where it stands.
+pub fn unwanted(word: Word) -> Refusal
+    ensures { result ≡ unwanted word }
 {
-    let w = words::word_at(text, at);
-    match w {
-        Word::Bad(p) => Read::No(3, p),
-        Word::Name(p, _) => Read::No(4, p),
-        Word::Number(p, _, _) => Read::No(4, p),
-        Word::Mark(b, p, n) => {
-            if b == code {
-                Read::Done(n, p, 0)
-            } else {
-                Read::No(4, p)
-            }
-        }
+    match word {
+        Word::Bad(place) => Refusal {
+            reason: Reason::NoWord,
+            place,
+        },
+        Word::Name(place, _) | Word::Number(place, _, _) | Word::Mark(_, place, _) => Refusal {
+            reason: Reason::WrongOrder,
+            place,
+        },
     }
 }
 
-// A name: where it ends, and its place.
-pub fn name(text: &[u8], at: usize) -> Read
-    ensures tells { Tells (spelling text.now) (a_name text.now at) result }
-    ensures named { Named (length text.now) at result }
-{
-    let w = words::word_at(text, at);
-    match w {
-        Word::Bad(p) => Read::No(3, p),
-        Word::Name(p, n) => Read::Done(n, p, 0),
-        Word::Number(p, _, _) => Read::No(4, p),
-        Word::Mark(_, p, _) => Read::No(4, p),
-    }
-}
-
-// The mark or reserved word `code`, if it is there: where it ends, and its place.
-pub fn optional(text: &[u8], at: usize, code: usize) -> Read
+// A mark or a reserved word.
+pub fn mark(text: &[u8], at: usize, key: Key) -> Result<Spot, Refusal>
     requires { at ≤ length text.now }
-    ensures spots { Spots code (word_at text.now at) result }
-    ensures past { Past code (length text.now) at result }
+    ensures tells { Tells (λ (p n : ℕ). p) (mark_at text.now (code key) at) result }
+    ensures past { IfOk result (Past (code key) (length text.now) at) }
 {
-    let w = words::word_at(text, at);
-    let Word::Mark(b, p, n) = w else {
-        return Read::No(0, 0);
+    let word = words::word_at(text, at);
+    let Word::Mark(b, place, next) = word else {
+        return Err(unwanted(word));
     };
-    if b == code {
-        return Read::Done(n, p, 0);
+    if b != key.code() {
+        return Err(unwanted(word));
     }
-    Read::No(0, 0)
+    Ok(Spot { next, place })
 }
 
-// The mark that joins factors, if it is there: where it ends, and the head of the factor after it.
-pub fn product(text: &[u8], at: usize) -> Read
+pub fn name(text: &[u8], at: usize) -> Result<Spot, Refusal>
+    ensures tells { Tells (spelling text.now) (a_name text.now at) result }
+    ensures named { IfOk result (Named (length text.now) at) }
+{
+    let word = words::word_at(text, at);
+    let Word::Name(place, next) = word else {
+        return Err(unwanted(word));
+    };
+    Ok(Spot { next, place })
+}
+
+// A mark or a reserved word, if it is there.
+pub fn optional(text: &[u8], at: usize, key: Key) -> Option<Spot>
+    requires { at ≤ length text.now }
+    ensures spots { Spots (code key) (word_at text.now at) result }
+    ensures past { IfSome result (Past (code key) (length text.now) at) }
+{
+    let Word::Mark(b, place, next) = words::word_at(text, at) else {
+        return None;
+    };
+    if b != key.code() {
+        return None;
+    }
+    Some(Spot { next, place })
+}
+
+// The mark that joins factors, if it is there.
+pub fn product(text: &[u8], at: usize) -> Option<Joint>
     requires { at ≤ length text.now }
     ensures joins { Joins is_product (word_at text.now at) result }
-    ensures joined { Joined (length text.now) at result }
+    ensures joined { IfSome result (Joined (length text.now) at) }
 {
-    let w = words::word_at(text, at);
-    let Word::Mark(b, _, n) = w else {
-        return Read::No(0, 0);
-    };
-    if b == Key::TIMES {
-        return Read::Done(n, 6, 0);
-    }
-    Read::No(0, 0)
+    let Spot { next, .. } = optional(text, at, Key::Times)?;
+    Some(Joint { next, head: 6 })
 }
 
-// A mark that joins terms, if it is there: where it ends, and the head of the factor after it.
-pub fn sum(text: &[u8], at: usize) -> Read
+// A mark that joins terms, if it is there.
+pub fn sum(text: &[u8], at: usize) -> Option<Joint>
     requires { at ≤ length text.now }
     ensures joins { Joins is_sum (word_at text.now at) result }
-    ensures joined { Joined (length text.now) at result }
+    ensures joined { IfSome result (Joined (length text.now) at) }
 {
-    let w = words::word_at(text, at);
-    let Word::Mark(b, _, n) = w else {
-        return Read::No(0, 0);
+    let Word::Mark(b, _, next) = words::word_at(text, at) else {
+        return None;
     };
-    if b == Key::PLUS {
-        return Read::Done(n, 2, 0);
+    if b == Key::Plus.code() {
+        return Some(Joint { next, head: 2 });
     }
-    if b == Key::MINUS {
-        return Read::Done(n, 4, 0);
+    if b == Key::Minus.code() {
+        return Some(Joint { next, head: 4 });
     }
-    Read::No(0, 0)
+    None
 }
 
 // After an item of a list: the mark that divides or the mark that closes.
-pub fn separator(text: &[u8], at: usize, sep: usize, close: usize) -> Divided
+pub fn separator(text: &[u8], at: usize, sep: Key, close: Key) -> Result<Divided, Refusal>
     requires { at ≤ length text.now }
-    ensures value { result ≡ dividing sep close (word_at text.now at) }
-    ensures parted { Parted sep close (length text.now) at result }
+    ensures value { result ≡ dividing (code sep) (code close) (word_at text.now at) }
+    ensures parted { IfOk result (Parted (code sep) (code close) (length text.now) at) }
 {
-    let w = words::word_at(text, at);
-    match w {
-        Word::Bad(p) => Divided::Wrong(3, p),
-        Word::Name(p, _) => Divided::Wrong(4, p),
-        Word::Number(p, _, _) => Divided::Wrong(4, p),
-        Word::Mark(b, p, n) => {
-            if b == sep {
-                Divided::Another(n, p)
-            } else if b == close {
-                Divided::Last(n)
-            } else {
-                Divided::Wrong(4, p)
-            }
-        }
+    let word = words::word_at(text, at);
+    let Word::Mark(b, place, next) = word else {
+        return Err(unwanted(word));
+    };
+    if b == sep.code() {
+        return Ok(Divided::Another(Spot { next, place }));
     }
+    if b == close.code() {
+        return Ok(Divided::Last(next));
+    }
+    Err(unwanted(word))
 }

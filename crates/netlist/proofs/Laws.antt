@@ -1,8 +1,8 @@
 -- Laws of judging a netlist. Assumes nothing.
 use mathlib.Core.Path.{◌≡◌, refl, sym, subst, ◌∙◌}
 use mathlib.Core.Bool.{Bool, true, false}
-use mathlib.Core.List.{List, [], ◌∷◌, ◌++◌}
-use Prim.Native.Nat.{ℕ, ◌+◌, ◌-◌, ◌*◌, ◌/◌, ◌%◌, ◌≤◌, ◌<◌}
+use mathlib.Core.List.{List}
+use Prim.Native.Nat.{ℕ, ◌+◌, ◌*◌, ◌≤◌, ◌<◌}
 use native.Mathlib.Omega.{arith}
 use native.Mathlib.Decide.{dec_lt}
 use lib.ListN.{get_or, set, length, replicate, length-set, length-replicate, get_or-replicate, get_or-eq_default}
@@ -12,7 +12,6 @@ use borrow.Author.Tests.{eqb-true, eqb-false}
 use borrow.Author.Count.{below_more}
 use Rattle.rules.specs.declared.Gate.{Gate}
 use Rattle.rules.specs.Netlist.{inputs, wires, gates, gate_at, Fine}
-use Rattle.rules.specs.Flat.{decimal}
 use Rattle.rules.proofs.Laws.FlatOne.{decimal-1, decimal-2, decimal-3, decimal-4}
 use Rattle.netlist.specs.Decides.{Decides, so, not_so, holds, fails}
 use Rattle.netlist.specs.Parts.{Body}
@@ -85,19 +84,5 @@ twice w i marks o m h e l u b = let d = holds (m.mark o l) u in b.once d.by i d.
 pub all-marked : (w : List ℕ) (i : ℕ) (marks : List Bool) → Marked w i marks → gates w ≤ i → Body w
 all-marked w i marks m h = record { fine = λ j k. m.fine j (omega arith); once = λ i j l k. m.once j (omega arith) i l }
 
--- ---- digits, then zeros
-
-abbrev Spelled : ℕ → ℕ → List ℕ → Type 0
-Spelled n k l = (k ≡ length (decimal n)) × (l ≡ decimal n ++ replicate (4 - length (decimal n)) 0)
-
-pub digits_1 : (n : ℕ) {a : ℕ} → n < 10 → a ≡ 48 + n → Spelled n 1 (a ∷ 0 ∷ 0 ∷ 0 ∷ [])
-digits_1 n h e = rw (decimal-1 n h, e) (refl, refl)
-
-pub digits_2 : (n : ℕ) {a b : ℕ} → 10 ≤ n → n < 100 → a ≡ 48 + n / 10 → b ≡ 48 + n % 10 → Spelled n 2 (a ∷ b ∷ 0 ∷ 0 ∷ [])
-digits_2 n g h e f = rw (decimal-2 n g h, e, f) (refl, refl)
-
-pub digits_3 : (n : ℕ) {a b c : ℕ} → 100 ≤ n → n < 1000 → a ≡ 48 + n / 100 → b ≡ 48 + n / 10 % 10 → c ≡ 48 + n % 10 → Spelled n 3 (a ∷ b ∷ c ∷ 0 ∷ [])
-digits_3 n g h e f i = rw (decimal-3 n g h, e, f, i) (refl, refl)
-
-pub digits_4 : (n : ℕ) {a b c d : ℕ} → 1000 ≤ n → a ≡ 48 + n / 1000 → b ≡ 48 + n / 100 % 10 → c ≡ 48 + n / 10 % 10 → d ≡ 48 + n % 10 → Spelled n 4 (a ∷ b ∷ c ∷ d ∷ [])
-digits_4 n h e f i j = rw (decimal-4 n h, e, f, i, j) (refl, refl)
+-- the digits of a number
+pub ruleset digits = (decimal-1, decimal-2, decimal-3, decimal-4)

@@ -1,7 +1,7 @@
 -- 01, "Numbers of the answers": what each answer of running, writing and reading tells. Assumes nothing.
-use Rattle.std.specs.Prelude.{ℕ}
-use Rattle.netlist.specs.declared.Answer.{Answer}
-use Rattle.netlist.specs.declared.Answer.TheVariants.{Done, Written, ShortBuffer, NotWellFormed, WrongInputs}
+use Rattle.std.specs.Prelude.{ℕ, Result, Ok, Err}
+use Rattle.rules.specs.Reasons.{number}
+use Rattle.rules.specs.declared.Reason.{Reason}
 
 -- the number, the place, and the length of the text that was written
 pub record Told : Type 0 where
@@ -17,9 +17,15 @@ done n = record { number = 0; place = 0; length = n }
 abbrev pub refused : ℕ → Told
 refused n = record { number = n; place = 0; length = 0 }
 
-unfoldable pub told : Answer → Told
-told Done = done 0
-told (Written n) = done n
-told ShortBuffer = refused 1
-told NotWellFormed = refused 19
-told WrongInputs = refused 20
+-- what a job tells that was done, with a text as long as `bytes` says, or was refused
+unfoldable pub told : {A : Type 0} → (A → ℕ) → Result A Reason → Told
+told bytes (Ok a) = done (bytes a)
+told bytes (Err e) = refused (number e)
+
+-- of a job that writes no text
+abbrev pub no_text : Unit {0} → ℕ
+no_text u = 0
+
+-- of a job whose value is the length of the text that it wrote
+abbrev pub its_length : ℕ → ℕ
+its_length n = n

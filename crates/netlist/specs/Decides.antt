@@ -1,6 +1,7 @@
 -- Answers that are a bool. Assumes nothing.
-use Rattle.std.specs.Prelude.{◌≡◌, refl, Bool, true, false, ℕ}
+use Rattle.std.specs.Prelude.{◌≡◌, ◌↔◌, refl, Bool, true, false, IsTrue, ℕ}
 use Rattle.std.proofs.Common.{arith}
+use Rattle.std.proofs.lemmas.Bool.{false≢true}
 
 -- P or not P, as the answer says
 pub data Decides (P : Type 0) : Bool → Type 0 where
@@ -20,3 +21,7 @@ holds (not_so n) e = let z : ◌≡◌ {A = ℕ} 0 1 = cc in absurd (omega arith
 pub fails : {P : Type 0} {b : Bool} → Decides P b → b ≡ false → P → ⊥
 fails (not_so n) e p = n p
 fails (so q) e p = let z : ◌≡◌ {A = ℕ} 0 1 = cc in absurd (omega arith)
+
+pub decides : {P : Type 0} (b : Bool) → (IsTrue b ↔ P) → Decides P b
+decides true e = so (e.0 refl)
+decides false e = not_so (λ p. absurd (false≢true (e.1 p)))

@@ -1,13 +1,13 @@
 -- Laws of a run as it is found. Assumes nothing.
-use Rattle.std.specs.Prelude.{◌≡◌, refl, Bool, true, false, ◌||◌, List, [], ◌∷◌, map, ℕ, zero, suc, ◌+◌, ◌≤◌, ◌<◌, get_or, set, length, take, eqb}
-use Rattle.std.proofs.Common.{sym, ap, subst, ◌∙◌, arith, get_or-set_same, get_or-set_other, eq-eqb, ne_eqb, eqb-true, below_more}
-use Rattle.std.proofs.lemmas.Bool.{eqb-false}
+use Rattle.std.specs.Prelude.{◌≡◌, refl, Bool, true, false, ◌||◌, ◌⊎◌, List, [], ◌∷◌, map, ℕ, zero, suc, ◌+◌, ◌≤◌, ◌<◌, get_or, set, length, take, eqb}
+use Rattle.std.proofs.Common.{sym, ap, inl, inr, subst, ◌∙◌, arith, get_or-set_same, get_or-set_other, eq-eqb, ne_eqb, eqb-true, below_more}
+use Rattle.std.proofs.lemmas.Bool.{eqb-false, or_right, cases_lt}
 use Rattle.rules.specs.declared.Gate.{Gate}
 use Rattle.rules.specs.Primitives.{inputs_of}
 use Rattle.rules.specs.Netlist.{inputs, wires, gates, gate_at, inputs_at, Slot, Fine, WellFormed}
 use Rattle.rules.specs.Meaning.{Signal, dark, makes}
 use Rattle.rules.specs.Run.{Known, given, made, AllKnown, to_byte, from_byte, Inputs, Shown, settled, unsettled, Shows}
-use Rattle.clear.specs.Zeros.{zeros, zeros-at}
+use Rattle.clear.specs.Zeros.{zeros}
 use Rattle.netlist.specs.Answers.{refused}
 use Rattle.run.specs.Ran.{Ran, short-values, bad-netlist, wrong-inputs}
 use Rattle.rules.proofs.Laws.Bytes.{byte-below, from-to, to-from, input-bit}
@@ -187,15 +187,15 @@ module _ (w : List ℕ) (wf : WellFormed w) (ins : List ℕ) (ok : Inputs w ins)
             rest = λ i a. set_at v o _ i (λ (b : ℕ). b ≡ 0) lo (λ e. absurd (omega (arith, f.out))) (λ n. g.rest i a);
           }
 
-  pub sweep-more : {v₀ v u : List ℕ} {n : ℕ} {c r : Bool} → 1536 ≤ length v → n < gates w → Sweep w v₀ n c v → Visit w v n r u → Sweep w v₀ (n + 1) (r || c) u
+  pub sweep-more : {v₀ v u : List ℕ} {n : ℕ} {c r : Bool} → 1536 ≤ length v → n < gates w → Sweep w v₀ n c v → Visit w v n r u → Sweep w v₀ (n + 1) (c || r) u
   sweep-more {v₀} {v} {u} {n} {c} {r} l h d s = go l d s
     where
-      go : {v u : List ℕ} {c r : Bool} → 1536 ≤ length v → Sweep w v₀ n c v → Visit w v n r u → Sweep w v₀ (n + 1) (r || c) u
+      go : {v u : List ℕ} {c r : Bool} → 1536 ≤ length v → Sweep w v₀ n c v → Visit w v n r u → Sweep w v₀ (n + 1) (c || r) u
       go l (same f) (stays s) = same (below_more _ _ f s)
       go l (fewer f) (stays s) = fewer f
       go {v} {u} {c} l d (settles t r) =
           let lo : (gate_at w n).out < length v = omega (arith, (wf.fine n h).out, wf.few-wires) in
-          fewer (less-twos w v₀ v n _ c d (set-twos v (gate_at w n).out _ lo t (byte-below _)))
+          rw (or_right c true refl) (fewer (less-twos w v₀ v n _ c d (set-twos v (gate_at w n).out _ lo t (byte-below _))))
 
   -- ---- at the end
 
@@ -238,19 +238,12 @@ module _ (w : List ℕ) (wf : WellFormed w) (ins : List ℕ) (ok : Inputs w ins)
 
 -- ---- the start
 
-pub record Begun (ins v : List ℕ) (i : ℕ) : Type 0 where
-  pub first : (k : ℕ) → k < i → First ins k (get_or v k 0)
-  pub zero : (k : ℕ) → i ≤ k → get_or v k 0 ≡ 0
-
-pub begun-none : (ins v : List ℕ) → v ≡ zeros (length v) → Begun ins v 0
-begun-none ins v e = record { first = λ k h. absurd (omega arith); zero = λ k h. ap (λ (l : List ℕ). get_or l k 0) e ∙ zeros-at (length v) k }
-
-pub begun_more : (ins v : List ℕ) (i b : ℕ) → i < length v → First ins i b → Begun ins v i → Begun ins (set v i b) (i + 1)
-begun_more ins v i b l f g =
-    record {
-      first = below_more _ _ (λ k h. let n : k ≡ i → ⊥ = omega arith in rw (get_or-set_other v i k b 0 n) (g.first k h)) (rw (get_or-set_same v i b 0 l) f);
-      zero = λ k h. let n : k ≡ i → ⊥ = omega arith in let m : i ≤ k = omega arith in get_or-set_other v i k b 0 n ∙ g.zero k m;
-    }
+pub first_of : {ins : List ℕ} {i b : ℕ} → (i < length ins → b ≡ get_or ins i 0) → (length ins ≤ i → b ≡ 2) → First ins i b
+first_of {ins} {i} {b} f g = go (cases_lt i (length ins))
+  where
+    go : (i < length ins) ⊎ (length ins ≤ i) → First ins i b
+    go (inl h) = rw (f h) (input h)
+    go (inr h) = rw (g h) (other h)
 
 pub going-from : (w ins v : List ℕ) → WellFormed w → Inputs w ins → ((i : ℕ) → i < wires w → First ins i (get_or v i 0)) → ((i : ℕ) → wires w ≤ i → get_or v i 0 ≡ 0) → Going w ins v
 going-from w ins v wf ok f z =

@@ -1,5 +1,5 @@
 -- What resolving the names of a tape answers and leaves. Assumes nothing.
-use Rattle.std.specs.Prelude.{◌≡◌, List, ℕ, ◌≤◌, length}
+use Rattle.std.specs.Prelude.{◌≡◌, List, ℕ, ◌≤◌, length, Result, Ok, Err}
 use Rattle.rules.specs.Outcome.{ok, refuse}
 use Rattle.rules.specs.Syntax.{Spelled, Program}
 use Rattle.rules.specs.Resolve.{names}
@@ -8,8 +8,8 @@ use Rattle.tape.specs.Encoding.{tape_of}
 use Rattle.tape.specs.Resolved.{resolved_tape}
 use Rattle.tape.specs.Written.{put}
 use Rattle.tape.specs.Lies.{Lies}
-use Rattle.sweep.specs.declared.Named.{Named}
-use Rattle.sweep.specs.declared.Named.TheVariants.{Done, No}
+use Rattle.rules.specs.Reasons.{number}
+use Rattle.rules.specs.declared.Refusal.{Refusal}
 
 -- the first `end` words of the tape t are those of the program Bs, which the text s spells
 pub record Holds (s t : List ℕ) (end : ℕ) (Bs : Spelled) : Type 0 where
@@ -33,6 +33,6 @@ pub record Right (s : List ℕ) (Bs : Spelled) (t u : List ℕ) (m : ℕ) : Type
   pub tape : u ≡ put t 0 (resolved_tape program)
 
 -- a refusal says nothing of the tape
-abbrev pub Resolves : List ℕ → Spelled → List ℕ → List ℕ → Named → Type 0
-Resolves s Bs t u (Done m) = Right s Bs t u m
-Resolves s Bs t u (No n p) = names (length s) Bs ≡ refuse n p
+abbrev pub Resolves : List ℕ → Spelled → List ℕ → List ℕ → Result ℕ Refusal → Type 0
+Resolves s Bs t u (Ok m) = Right s Bs t u m
+Resolves s Bs t u (Err e) = names (length s) Bs ≡ refuse (number e.reason) e.place

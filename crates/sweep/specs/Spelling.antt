@@ -28,10 +28,3 @@ entry_of s w = record { letters = letters_of s w; role = role_in w }
 -- a scope by the words of its declared names
 abbrev pub scope_in : List ℕ → List ℕ → Scope
 scope_in s ws = map (entry_of s) ws
-
--- a role's number: the head of a declared word, and 3 for a generic
-unfoldable pub role_number : Role → ℕ
-role_number a-wire = 0
-role_number a-vector = 1
-role_number an-index = 2
-role_number a-generic = 3

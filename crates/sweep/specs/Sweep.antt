@@ -1,5 +1,7 @@
 -- The sweep over the words of a tape, from the first to the last: what becomes of each word, or the refusal that it gives. Assumes nothing.
-use Rattle.std.specs.Prelude.{ℕ, suc, ◌+◌, ◌*◌, ◌-◌, ◌<◌, ◌≤◌, min, max, ◌≡◌, Bool, true, false, not, ◌&&◌, ◌||◌, List, [], ◌∷◌, ◌++◌, map, length, get_or, set, take, drop, eqb, ltb}
+use Rattle.std.specs.Prelude.{ℕ, suc, ◌+◌, ◌*◌, ◌-◌, ◌<◌, ◌≤◌, min, max, ◌≡◌, Bool, true, false, not, ◌&&◌, ◌||◌, List, [], ◌∷◌, ◌++◌, map, length, get_or, set, take, drop, eqb, ltb, Option, Some, None, Result, Ok, Err}
+use Rattle.rules.specs.Reasons.{number}
+use Rattle.rules.specs.declared.Refusal.{Refusal}
 use Rattle.rules.specs.Text.{bytes, pick, index_of, is_in}
 use Rattle.rules.specs.Outcome.{Out, ok, refuse, ◌>>=◌, need_at}
 use Rattle.rules.specs.Primitives.{inputs_of, primitive_names}
@@ -7,12 +9,7 @@ use Rattle.rules.specs.Names.{Role, a-generic, a-wire, a-vector, an-index, is_wi
 use Rattle.tape.specs.Layout.{kind_of, head_in, value_of, NAME, BRACKET, CALL, INPUT, OUTPUT, INDEX, BODY, BLOCK, GENERIC, IN, OUT}
 use Rattle.sweep.specs.declared.Spot.{Spot}
 use Rattle.sweep.specs.declared.Heading.{Heading}
-use Rattle.sweep.specs.declared.Named.{Named}
-use Rattle.sweep.specs.declared.Named.TheVariants.{Done, No}
-use Rattle.sweep.specs.declared.Found.{Found}
-use Rattle.sweep.specs.declared.Found.TheVariants.{At, Nothing}
-use Rattle.sweep.specs.declared.Turn.{Turn}
-use Rattle.sweep.specs.declared.Turn.TheVariants.{Word, Halt}
+use Rattle.sweep.specs.declared.Step.{Step}
 use Rattle.sweep.specs.Spelling.{place_of, letters_of, name_of, valued, scope_in}
 
 -- ---- headings: the words of the tape that name blocks, generics, inputs and outputs, from place 4 on; before them four words of head 0,
@@ -219,36 +216,37 @@ module _ (s H F N : List ℕ) where
 -- ---- what the functions of the sweep answer
 
 -- the number that an outcome gives, below 128, or its refusal
-abbrev pub Tells : Out ℕ → Named → Type 0
-Tells o (Done k) = (o ≡ ok k) × (k < 128)
-Tells o (No n p) = o ≡ refuse n p
+abbrev pub Tells : Out ℕ → Result ℕ Refusal → Type 0
+Tells o (Ok k) = (o ≡ ok k) × (k < 128)
+Tells o (Err e) = o ≡ refuse (number e.reason) e.place
 
-abbrev pub Answers : Out ℕ → Named → Type 0
-Answers o (Done k) = o ≡ ok k
-Answers o (No n p) = o ≡ refuse n p
-
-abbrev pub Small : Named → Type 0
-Small (Done k) = k < 128
-Small (No n p) = Unit {0}
+abbrev pub Answers : Out ℕ → Result ℕ Refusal → Type 0
+Answers o (Ok k) = o ≡ ok k
+Answers o (Err e) = o ≡ refuse (number e.reason) e.place
 
 -- the first of the spellings that is the same, or none is
-abbrev pub Finds : List ℕ → List (List ℕ) → Found → Type 0
-Finds l vs (At k) = (k ≡ index_of l vs) × (k < length vs)
-Finds l vs Nothing = length vs ≤ index_of l vs
+abbrev pub Finds : List ℕ → List (List ℕ) → Option ℕ → Type 0
+Finds l vs (Some k) = (k ≡ index_of l vs) × (k < length vs)
+Finds l vs None = length vs ≤ index_of l vs
 
--- the word and the state that an outcome gives, or its refusal
-abbrev pub Says : Out (ℕ × State) → Turn → State → Type 0
-Says o (Word w) S = o ≡ ok (w, S)
-Says o (Halt n p) S = o ≡ refuse n p
+-- 48, which no declared name has, stands for no index
+abbrev pub index_or_none : Option ℕ → ℕ
+index_or_none (Some k) = k
+index_or_none None = 48
 
 abbrev pub state_of : List ℕ → List ℕ → Spot → State
-state_of scope until p = record { scope = scope; count = p.count; until = until; index = p.index; want = p.want; blocks = p.blocks }
+state_of scope until p = record { scope = scope; count = p.count; until = until; index = index_or_none p.index; want = p.want; blocks = p.blocks }
+
+-- the word and the state that an outcome gives, or its refusal
+abbrev pub Says : Out (ℕ × State) → List ℕ → List ℕ → Result Step Refusal → Type 0
+Says o scope until (Ok r) = o ≡ ok (r.word, state_of scope until r.spot)
+Says o scope until (Err e) = o ≡ refuse (number e.reason) e.place
 
 -- before the first word
 abbrev pub start : List ℕ → List ℕ → State
 start scope until = record { scope = scope; count = 0; until = until; index = 48; want = 0; blocks = 0 }
 
 -- what a sweep over the first `end` words of the tape t leaves, u
-abbrev pub Swept : Out (List ℕ) → ℕ → List ℕ → List ℕ → Named → Type 0
-Swept o end t u (Done m) = (o ≡ ok (take end u)) × (drop end u ≡ drop end t) × (length u ≡ length t)
-Swept o end t u (No n p) = o ≡ refuse n p
+abbrev pub Swept : Out (List ℕ) → ℕ → List ℕ → List ℕ → Result (Unit {0}) Refusal → Type 0
+Swept o end t u (Ok _) = (o ≡ ok (take end u)) × (drop end u ≡ drop end t) × (length u ≡ length t)
+Swept o end t u (Err e) = o ≡ refuse (number e.reason) e.place

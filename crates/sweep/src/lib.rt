@@ -3,12 +3,12 @@
 #![tactic(auto)]
 
 // What is known where a word stands, beside the words of the declared names and the ends of loops.
-#[derive(Clone, Copy)]
+#[derive(Clone, Copy, PartialEq, Eq, Debug)]
 pub struct Spot {
     // How many names its block declared so far.
     pub count: usize,
-    // The index of the loop whose body is next; 48 for a block's body.
-    pub index: usize,
+    // The index of the loop whose body is next; none for a block's body.
+    pub index: Option<usize>,
     // Where among the headings the port stands that the next argument is for.
     pub want: usize,
     // How many blocks have begun.
@@ -16,7 +16,7 @@ pub struct Spot {
 }
 
 // What a call wants, and where among the headings its ports begin.
-#[derive(Clone, Copy)]
+#[derive(Clone, Copy, PartialEq, Eq, Debug)]
 pub struct Heading {
     pub generics: usize,
     pub inputs: usize,
@@ -24,28 +24,9 @@ pub struct Heading {
     pub want: usize,
 }
 
-// A number, or a refusal's number and place.
-#[derive(Clone, Copy)]
-pub enum Named {
-    Done(usize),
-    No(usize, usize),
-}
-
-#[derive(Clone, Copy)]
-pub enum Found {
-    At(usize),
-    Nothing,
-}
-
-// What a word becomes, or a refusal's number and place.
-#[derive(Clone, Copy)]
-pub enum Turn {
-    Word(u32),
-    Halt(usize, usize),
-}
-
-#[derive(Clone, Copy)]
+// What a word becomes, and what is known after it.
+#[derive(Clone, Copy, PartialEq, Eq, Debug)]
 pub struct Step {
-    pub turn: Turn,
+    pub word: u32,
     pub spot: Spot,
 }

@@ -1,5 +1,5 @@
 -- The words of an expression's factors, and where on the tape they stand. Assumes nothing.
-use Rattle.std.specs.Prelude.{◌≡◌, refl, ℕ, ◌+◌, ◌-◌, ◌/◌, ◌%◌, ◌≤◌, ◌<◌, Bool, true, false, ◌&&◌, List, [], ◌∷◌, ◌++◌, length, get_or, eqb, leb, ltb, ℤ}
+use Rattle.std.specs.Prelude.{◌≡◌, refl, ℕ, ◌+◌, ◌-◌, ◌/◌, ◌%◌, ◌≤◌, ◌<◌, Bool, true, false, ◌&&◌, List, [], ◌∷◌, ◌++◌, length, get_or, eqb, leb, ltb, ℤ, Option, Some, None, option_map}
 use Rattle.std.proofs.Common.{sym, ap, ◌∙◌, arith, append_assoc, append-nil, eqb-true}
 use Rattle.std.proofs.lemmas.Bool.{eqb-false}
 use Rattle.rules.specs.Text.{pick}
@@ -11,12 +11,17 @@ use Rattle.tape.specs.Layout.{kind_of, head_in, head_of, flip}
 use Rattle.tape.specs.Encoding.{exp_w, list_w}
 use Rattle.tape.specs.Resolved.{slot_w}
 use Rattle.tape.specs.Lies.{Lies}
-use Rattle.values.specs.declared.Number.{Number}
-use Rattle.values.specs.declared.Number.TheVariants.{Is, Beyond}
-use Rattle.values.specs.declared.Value.{Value}
-use Rattle.values.specs.declared.Value.TheVariants.{At, Outside}
+use Rattle.values.specs.declared.Valued.{Valued}
 use Rattle.values.specs.Numbers.{outcome}
 use Rattle.values.specs.Factors.{Factor, factors, Grouped, flip-half}
+
+-- ---- a word's kind, as the code asks for it
+
+pub of-kind : {k : ℕ} {b : Bool} (n : ℕ) → b ≡ eqb k n → b ≡ true → k ≡ n
+of-kind {k} n e t = eqb-true k n (sym e ∙ t)
+
+pub not-kind : {k : ℕ} {b : Bool} (n : ℕ) → b ≡ eqb k n → b ≡ false → k ≡ n → ⊥
+not-kind {k} n e f q = eqb-false k n (sym e ∙ f) q
 
 -- ---- an expression on the tape
 
@@ -39,9 +44,9 @@ pub record Written (t : List ℕ) (at end : ℕ) : Type 0 where
   pub here : Here t at end exp
 
 -- the rules' outcome, and the place after the words
-unfoldable pub Says : Out ℤ → ℕ → Value → Type 0
-Says o n (At z m) = (o ≡ ok z) × (m ≡ n)
-Says o n Outside = o ≡ refuse 10 0
+unfoldable pub Says : Out ℤ → ℕ → Option Valued → Type 0
+Says o n (Some r) = (o ≡ ok r.value) × (r.next ≡ n)
+Says o n None = o ≡ refuse 10 0
 
 -- ---- a factor on the tape
 
@@ -162,22 +167,21 @@ row h (both o d e) = row-append h (factors h d) (factors (head_of o) e) (row h d
 
 -- ---- numbers and values
 
-unfoldable pub number_in : Value → Number
-number_in (At z n) = Is z
-number_in Outside = Beyond
+abbrev pub number_in : Option Valued → Option ℤ
+number_in r = option_map (λ v. v.value) r
 
-unfoldable pub value_at : Number → ℕ → Value
-value_at (Is z) n = At z n
-value_at Beyond n = Outside
+unfoldable pub value_at : Option ℤ → ℕ → Option Valued
+value_at (Some z) n = Some (record { value = z; next = n })
+value_at None n = None
 
-pub says-number : (v : Number) (n : ℕ) (r : Value) → Says (outcome v) n r → number_in r ≡ v
-unfolding Says number_in outcome
-says-number (Is z) n (At y m) s = ap Is (sym (ok-inj s.0))
-says-number (Is z) n Outside s = absurd (no_ok (sym s))
-says-number Beyond n (At y m) s = absurd (no_ok s.0)
-says-number Beyond n Outside s = refl
+pub says-number : (v : Option ℤ) (n : ℕ) (r : Option Valued) → Says (outcome v) n r → number_in r ≡ v
+unfolding Says outcome
+says-number (Some z) n (Some r) s = ap Some (sym (ok-inj s.0))
+says-number (Some z) n None s = absurd (no_ok (sym s))
+says-number None n (Some r) s = absurd (no_ok s.0)
+says-number None n None s = refl
 
-pub says-value : (v : Number) (n : ℕ) → Says (outcome v) n (value_at v n)
+pub says-value : (v : Option ℤ) (n : ℕ) → Says (outcome v) n (value_at v n)
 unfolding Says value_at outcome
-says-value (Is z) n = (refl, refl)
-says-value Beyond n = refl
+says-value (Some z) n = (refl, refl)
+says-value None n = refl

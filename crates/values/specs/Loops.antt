@@ -1,58 +1,43 @@
 -- The rounds of a loop, from its bounds on the tape. Assumes nothing.
-use Rattle.std.specs.Prelude.{◌≡◌, refl, ℕ, zero, suc, ◌+◌, ◌-◌, ◌≤◌, ◌<◌, List, length, Bool, true, false, cond, ltb, ℤ, pos, negsuc, nat_abs, neg_ℤ, ◌+ℤ◌, ◌-ℤ◌}
-use Rattle.std.proofs.Common.{subst, arith, leb→le}
-use Rattle.std.proofs.Math.IntN.{suc_ℤ}
-use Rattle.rules.specs.Outcome.{Out, ok, refuse, ◌>>=◌}
+use Rattle.std.specs.Prelude.{◌≡◌, refl, ℕ, zero, suc, ◌+◌, ◌-◌, ◌≤◌, ◌<◌, Bool, true, false, cond, ltb, ℤ, pos, negsuc, nat_abs, neg_ℤ, ◌+ℤ◌, ◌-ℤ◌, Option, Some, None, Result, Ok, Err}
+use Rattle.std.proofs.Common.{◌∙◌, subst, arith, leb→le}
+use Rattle.rules.specs.Outcome.{ok, refuse}
 use Rattle.rules.specs.Syntax.{Exp, number, name, neg, group, both}
 use Rattle.rules.specs.Values.{Env, ranged, eval, rounds}
 use Rattle.rules.proofs.Laws.Outcomes.{ok-inj, inv, need-yes}
-use Rattle.tape.specs.Encoding.{exp_w}
-use Rattle.tape.specs.Resolved.{slot_w}
-use Rattle.values.specs.declared.Apart.TheVariants.{By, Not}
+use Rattle.rules.specs.declared.Reason.{Reason}
+use Rattle.rules.specs.declared.Reason.TheVariants.{OutOfRange}
+use Rattle.values.specs.declared.Bounds.{Bounds}
+use Rattle.rules.specs.Reasons.{number as number_of}
 use Rattle.values.specs.declared.Rounds.{Rounds}
-use Rattle.values.specs.declared.Rounds.TheVariants.{From, Wrong}
-use Rattle.values.specs.Here.{Here}
+use Rattle.values.specs.Pairs.{both-bounds, SaysTwo}
 use Rattle.values.specs.Sizes.{apart_of}
 
--- two expressions, one after the other
-pub record HereTwo (t : List ℕ) (at end : ℕ) (a b : Exp ℕ) : Type 0 where
-  pub first : Here t at end a
-  pub second : Here t (at + length (exp_w slot_w 0 a)) end b
-
-pub record WrittenTwo (t : List ℕ) (at end : ℕ) : Type 0 where
-  pub left : Exp ℕ
-  pub right : Exp ℕ
-  pub here : HereTwo t at end left right
-
--- first bound, second bound
-abbrev pub both-bounds : Env → Exp ℕ → Exp ℕ → Out (ℤ × ℤ)
-both-bounds ρ a b = do
-  x ← eval ρ a
-  y ← eval ρ b
-  ok (x, y)
-
 -- the first index, how many rounds, and the place after the words
-unfoldable pub Turns : Env → Exp ℕ → Exp ℕ → ℕ → Rounds → Type 0
-Turns ρ a b n (From x k m) = (y : ℤ) × (eval ρ a ≡ ok x) × (eval ρ b ≡ ok y) × (k ≡ rounds (y -ℤ x)) × (m ≡ n)
-Turns ρ a b n (Wrong k) = both-bounds ρ a b ≡ refuse k 0
+unfoldable pub Turns : Env → Exp ℕ → Exp ℕ → ℕ → Result Rounds Reason → Type 0
+Turns ρ a b n (Ok r) = (y : ℤ) × (eval ρ a ≡ ok r.first) × (eval ρ b ≡ ok y) × (r.count ≡ rounds (y -ℤ r.first)) × (r.next ≡ n)
+Turns ρ a b n (Err e) = both-bounds ρ a b ≡ refuse (number_of e) 0
 
-pub rounds-none : (d : ℤ) → Not ≡ apart_of d → 0 ≡ rounds d
-unfolding apart_of rounds
-rounds-none (pos k) e = let z : ◌≡◌ {A = ℕ} 0 1 = cc in absurd (omega arith)
-rounds-none (negsuc k) e = refl
+-- how many rounds, by how far the last index lies above the first
+unfoldable pub count_of : Option ℕ → ℕ
+count_of (Some k) = k + 1
+count_of None = 0
 
-pub rounds-some : (d : ℤ) {k : ℕ} → By k ≡ apart_of d → k + 1 ≡ rounds d
-unfolding apart_of rounds
-rounds-some (pos j) {k} e = let q : k ≡ j = cc in omega arith
-rounds-some (negsuc j) e = let z : ◌≡◌ {A = ℕ} 0 1 = cc in absurd (omega arith)
+pub rounds-are : (d : ℤ) → count_of (apart_of d) ≡ rounds d
+unfolding apart_of rounds count_of
+rounds-are (pos k) = omega arith
+rounds-are (negsuc k) = refl
 
-pub bounds-first : (ρ : Env) (a b : Exp ℕ) → eval ρ a ≡ refuse 10 0 → both-bounds ρ a b ≡ refuse 10 0
-unfolding ◌>>=◌
-bounds-first ρ a b e = rw e
+-- ---- as the code finds them
 
-pub bounds-second : (ρ : Env) (a b : Exp ℕ) {x : ℤ} → eval ρ a ≡ ok x → eval ρ b ≡ refuse 10 0 → both-bounds ρ a b ≡ refuse 10 0
-unfolding ◌>>=◌
-bounds-second ρ a b e f = rw (e, f)
+module _ (ρ : Env) (a b : Exp ℕ) (n : ℕ) where
+  pub not-turned : SaysTwo ρ a b n None → Turns ρ a b n (Err OutOfRange)
+  unfolding SaysTwo Turns
+  not-turned s = s
+
+  pub turned : (r : Bounds) (k : ℕ) → SaysTwo ρ a b n (Some r) → k ≡ count_of (apart_of (r.last -ℤ r.first)) → Turns ρ a b n (Ok (record { first = r.first; count = k; next = r.next }))
+  unfolding SaysTwo Turns
+  turned r k s e = (r.last, s.0, s.1, e ∙ rounds-are (r.last -ℤ r.first), s.2)
 
 -- ---- no index leaves the range by more than the rounds: the code's 32 bits hold it
 
@@ -88,8 +73,3 @@ rounds-more (negsuc a) n h k = rounds-cond (ltb (suc n) (suc a)) (suc a - suc (s
 pub rounds-small : (x y : ℤ) → nat_abs x ≤ 1000000 → nat_abs y ≤ 1000000 → rounds (y -ℤ x) ≤ 2000001
 rounds-small (pos n) y h k = rounds-less y n k h
 rounds-small (negsuc n) y h k = rounds-more y n k h
-
-pub next_small : (v : ℤ) (n : ℕ) → nat_abs v ≤ n → nat_abs (suc_ℤ v) ≤ n + 1
-next_small (pos a) n h = omega arith
-next_small (negsuc zero) n h = omega arith
-next_small (negsuc (suc a)) n h = omega arith

@@ -1,42 +1,45 @@
 -- Numbers in range, or none, and the rules' values as such numbers. Assumes nothing.
-use Rattle.std.specs.Prelude.{◌≡◌, refl, ℕ, zero, suc, Bool, true, false, T, leb, eqb, ℤ, pos, negsuc, nat_abs, neg_ℤ, ◌+ℤ◌, ◌-ℤ◌, ◌*ℤ◌}
+use Rattle.std.specs.Prelude.{◌≡◌, refl, ℕ, zero, suc, Bool, true, false, T, leb, ℤ, pos, negsuc, nat_abs, neg_ℤ, ◌+ℤ◌, ◌-ℤ◌, ◌*ℤ◌, Option, Some, None}
 use Rattle.std.proofs.Common.{ap, ◌∙◌}
 use Rattle.std.proofs.Math.IntN.{neg_ℤ-neg_ℤ}
 use Rattle.rules.specs.Text.{pick}
 use Rattle.rules.specs.Outcome.{Out, ok, refuse, ◌>>=◌, need}
 use Rattle.rules.specs.Syntax.{Op, plus, minus, times, Exp, number, name, neg, group, both}
 use Rattle.rules.specs.Values.{Env, ranged, apply, eval}
-use Rattle.values.specs.declared.Number.{Number}
-use Rattle.values.specs.declared.Number.TheVariants.{Is, Beyond}
+use Rattle.values.specs.declared.Mark.{Mark}
+use Rattle.values.specs.declared.Mark.TheVariants.{First, Plus, Minus, Times}
 
-unfoldable pub clipped : ℤ → Number
-clipped z = pick (leb (nat_abs z) 1000000) (Is z) Beyond
+unfoldable pub clipped : ℤ → Option ℤ
+clipped z = pick (leb (nat_abs z) 1000000) (Some z) None
 
-unfoldable pub negation : Number → Number
-negation (Is x) = clipped (neg_ℤ x)
-negation Beyond = Beyond
+unfoldable pub negation : Option ℤ → Option ℤ
+negation (Some x) = clipped (neg_ℤ x)
+negation None = None
 
 -- two numbers joined by a mark; by none, the second alone
-unfoldable pub join : ℕ → ℤ → ℤ → Number
-join m x y = pick (eqb m 0) (Is y) (pick (eqb m 1) (clipped (x +ℤ y)) (pick (eqb m 2) (clipped (x -ℤ y)) (clipped (x *ℤ y))))
+unfoldable pub join : Mark → ℤ → ℤ → Option ℤ
+join First x y = Some y
+join Plus x y = clipped (x +ℤ y)
+join Minus x y = clipped (x -ℤ y)
+join Times x y = clipped (x *ℤ y)
 
-unfoldable pub joined : ℕ → Number → Number → Number
-joined m (Is x) (Is y) = join m x y
-joined m (Is x) Beyond = Beyond
-joined m Beyond y = Beyond
+unfoldable pub joined : Mark → Option ℤ → Option ℤ → Option ℤ
+joined m (Some x) (Some y) = join m x y
+joined m (Some x) None = None
+joined m None y = None
 
 -- the rules' outcome that a number stands for
-unfoldable pub outcome : Number → Out ℤ
-outcome (Is z) = ok z
-outcome Beyond = refuse 10 0
+unfoldable pub outcome : Option ℤ → Out ℤ
+outcome (Some z) = ok z
+outcome None = refuse 10 0
 
-unfoldable pub mark_of : Op → ℕ
-mark_of plus = 1
-mark_of minus = 2
-mark_of times = 3
+unfoldable pub mark_of : Op → Mark
+mark_of plus = Plus
+mark_of minus = Minus
+mark_of times = Times
 
 -- the value of an expression
-unfoldable pub value : Env → Exp ℕ → Number
+unfoldable pub value : Env → Exp ℕ → Option ℤ
 value ρ (number n) = clipped (pos n)
 value ρ (name i) = clipped (ρ i)
 value ρ (neg e) = negation (value ρ e)
@@ -49,7 +52,7 @@ ranged-is : (z : ℤ) → outcome (clipped z) ≡ ranged z
 unfolding outcome clipped ranged pick need ◌>>=◌
 ranged-is z = go (leb (nat_abs z) 1000000)
   where
-    go : (c : Bool) → outcome (pick c (Is z) Beyond) ≡ (need c 10 >>= λ _. ok z)
+    go : (c : Bool) → outcome (pick c (Some z) None) ≡ (need c 10 >>= λ _. ok z)
     go true = refl
     go false = refl
 
@@ -59,16 +62,16 @@ apply-is plus x y = ranged-is (x +ℤ y)
 apply-is minus x y = ranged-is (x -ℤ y)
 apply-is times x y = ranged-is (x *ℤ y)
 
-neg_is : (v : Number) → outcome (negation v) ≡ (outcome v >>= λ x. ranged (neg_ℤ x))
+neg_is : (v : Option ℤ) → outcome (negation v) ≡ (outcome v >>= λ x. ranged (neg_ℤ x))
 unfolding outcome negation ◌>>=◌
-neg_is (Is x) = ranged-is (neg_ℤ x)
-neg_is Beyond = refl
+neg_is (Some x) = ranged-is (neg_ℤ x)
+neg_is None = refl
 
-joined_is : (op : Op) (v w : Number) → outcome (joined (mark_of op) v w) ≡ (outcome v >>= λ x. outcome w >>= λ y. ranged (apply op x y))
+joined_is : (op : Op) (v w : Option ℤ) → outcome (joined (mark_of op) v w) ≡ (outcome v >>= λ x. outcome w >>= λ y. ranged (apply op x y))
 unfolding outcome joined ◌>>=◌
-joined_is op (Is x) (Is y) = apply-is op x y
-joined_is op (Is x) Beyond = refl
-joined_is op Beyond w = refl
+joined_is op (Some x) (Some y) = apply-is op x y
+joined_is op (Some x) None = refl
+joined_is op None w = refl
 
 pub value-is : (ρ : Env) (e : Exp ℕ) → outcome (value ρ e) ≡ eval ρ e
 unfolding value eval
@@ -80,22 +83,22 @@ value-is ρ (both op d e) = joined_is op (value ρ d) (value ρ e) ∙ rw (value
 
 -- ---- two minuses
 
-unfoldable Fine : Number → Type 0
-Fine (Is z) = T (leb (nat_abs z) 1000000)
-Fine Beyond = Unit {0}
+unfoldable Fine : Option ℤ → Type 0
+Fine (Some z) = T (leb (nat_abs z) 1000000)
+Fine None = Unit {0}
 
 clipped-fine : (z : ℤ) → Fine (clipped z)
 unfolding Fine clipped pick
 clipped-fine z = go (leb (nat_abs z) 1000000) refl
   where
-    go : (c : Bool) → leb (nat_abs z) 1000000 ≡ c → Fine (pick c (Is z) Beyond)
+    go : (c : Bool) → leb (nat_abs z) 1000000 ≡ c → Fine (pick c (Some z) None)
     go true e = rw e tt
     go false e = tt
 
-neg-fine : (v : Number) → Fine (negation v)
+neg-fine : (v : Option ℤ) → Fine (negation v)
 unfolding Fine negation
-neg-fine (Is x) = clipped-fine (neg_ℤ x)
-neg-fine Beyond = tt
+neg-fine (Some x) = clipped-fine (neg_ℤ x)
+neg-fine None = tt
 
 join-fine : (op : Op) (x y : ℤ) → Fine (join (mark_of op) x y)
 unfolding join mark_of pick
@@ -103,11 +106,11 @@ join-fine plus x y = clipped-fine (x +ℤ y)
 join-fine minus x y = clipped-fine (x -ℤ y)
 join-fine times x y = clipped-fine (x *ℤ y)
 
-joined-fine : (op : Op) (v w : Number) → Fine (joined (mark_of op) v w)
+joined-fine : (op : Op) (v w : Option ℤ) → Fine (joined (mark_of op) v w)
 unfolding Fine joined
-joined-fine op (Is x) (Is y) = join-fine op x y
-joined-fine op (Is x) Beyond = tt
-joined-fine op Beyond w = tt
+joined-fine op (Some x) (Some y) = join-fine op x y
+joined-fine op (Some x) None = tt
+joined-fine op None w = tt
 
 value-fine : (ρ : Env) (e : Exp ℕ) → Fine (value ρ e)
 unfolding value
@@ -122,22 +125,22 @@ abs_neg (pos zero) = refl
 abs_neg (pos (suc n)) = refl
 abs_neg (negsuc n) = refl
 
-clipped-in : (z : ℤ) → T (leb (nat_abs z) 1000000) → clipped z ≡ Is z
+clipped-in : (z : ℤ) → T (leb (nat_abs z) 1000000) → clipped z ≡ Some z
 unfolding clipped pick
 clipped-in z t = go (leb (nat_abs z) 1000000) t
   where
-    go : (c : Bool) → T c → pick c (Is z) Beyond ≡ Is z
+    go : (c : Bool) → T c → pick c (Some z) None ≡ Some z
     go true t = refl
     go false t = absurd t
 
-negation-in : (z : ℤ) → T (leb (nat_abs z) 1000000) → negation (Is z) ≡ Is (neg_ℤ z)
+negation-in : (z : ℤ) → T (leb (nat_abs z) 1000000) → negation (Some z) ≡ Some (neg_ℤ z)
 unfolding negation
 negation-in z t = clipped-in (neg_ℤ z) (rw abs_neg t)
 
-twice : (v : Number) → Fine v → negation (negation v) ≡ v
+twice : (v : Option ℤ) → Fine v → negation (negation v) ≡ v
 unfolding Fine negation
-twice (Is z) t = ap negation (negation-in z t) ∙ negation-in (neg_ℤ z) (rw abs_neg t) ∙ ap Is (neg_ℤ-neg_ℤ z)
-twice Beyond t = refl
+twice (Some z) t = ap negation (negation-in z t) ∙ negation-in (neg_ℤ z) (rw abs_neg t) ∙ ap Some (neg_ℤ-neg_ℤ z)
+twice None t = refl
 
 pub value-twice : (ρ : Env) (e : Exp ℕ) → negation (negation (value ρ e)) ≡ value ρ e
 value-twice ρ e = twice (value ρ e) (value-fine ρ e)

@@ -1,5 +1,5 @@
 -- Where an expression stops, and types on the tape. Assumes nothing.
-use Rattle.std.specs.Prelude.{◌≡◌, refl, ℕ, suc, ◌+◌, ◌≤◌, ◌<◌, Bool, true, false, ◌&&◌, List, ◌∷◌, ◌++◌, length, get_or, leb, ltb, ℤ, pos, negsuc, ◌-ℤ◌}
+use Rattle.std.specs.Prelude.{◌≡◌, refl, ℕ, suc, ◌+◌, ◌≤◌, ◌<◌, Bool, true, false, ◌&&◌, List, ◌∷◌, ◌++◌, length, get_or, leb, ltb, ℤ, pos, negsuc, ◌-ℤ◌, Option, Some, None, Result, Ok, Err}
 use Rattle.std.proofs.Common.{sym, ap, ◌∙◌, subst, arith, length-append, le-ltb, le-leb}
 use Rattle.std.proofs.lemmas.Bool.{lt-leb}
 use Rattle.rules.specs.Outcome.{Out, ok, refuse, ◌>>=◌, need}
@@ -10,13 +10,15 @@ use Rattle.tape.specs.Layout.{kind_of, head_in, head-of}
 use Rattle.tape.specs.Encoding.{exp_w, list_w, sort_w}
 use Rattle.tape.specs.Resolved.{slot_w}
 use Rattle.tape.specs.Lies.{Lies, lies-first, lies-rest, lies-left, lies-right}
-use Rattle.values.specs.declared.Apart.{Apart}
-use Rattle.values.specs.declared.Apart.TheVariants.{By, Not}
+use Rattle.rules.specs.declared.Reason.{Reason}
+use Rattle.rules.specs.declared.Reason.TheVariants.{OutOfRange, WrongVector}
+use Rattle.rules.specs.Reasons.{number as number_of}
+use Rattle.values.specs.declared.Bounds.{Bounds}
 use Rattle.values.specs.declared.Size.{Size}
-use Rattle.values.specs.declared.Size.TheVariants.{Wires, Wrong}
 use Rattle.values.specs.Factors.{Grouped}
-use Rattle.values.specs.Here.{goes_on, Here, Sound, factor_w, row, factors-words, factors-sound}
+use Rattle.values.specs.Here.{goes_on, Sound, factor_w, row, factors-words, factors-sound}
 use Rattle.values.specs.Taking.{leads, plain-some}
+use Rattle.values.specs.Pairs.{HereTwo, both-bounds, bounds-refused, SaysTwo}
 
 -- ---- where an expression stops
 
@@ -61,9 +63,9 @@ unfolding goes_on
 stops_first t i end e g l s = third (ltb i end) (leb (kind_of (get_or t i 0)) 2) _ (lt-leb 2 (head_in (get_or t i 0)) (opens e g l s).head)
 
 -- how far up, if not down
-unfoldable pub apart_of : ℤ → Apart
-apart_of (pos k) = By k
-apart_of (negsuc k) = Not
+unfoldable pub apart_of : ℤ → Option ℕ
+apart_of (pos k) = Some k
+apart_of (negsuc k) = None
 
 -- ---- a type on the tape: the words of a declaration of kind k, written as v
 
@@ -86,9 +88,9 @@ pub record WrittenSort (t : List ℕ) (at end : ℕ) : Type 0 where
   pub here : HereSort t at end kind value sort
 
 -- the rules' outcome, and the place after the words
-unfoldable pub Sizes : Out Shape → ℕ → Size → Type 0
-Sizes o n (Wires l c m) = (o ≡ ok (record { low = l; size = c })) × (m ≡ n)
-Sizes o n (Wrong k) = o ≡ refuse k 0
+unfoldable pub Sizes : Out Shape → ℕ → Result Size Reason → Type 0
+Sizes o n (Ok r) = (o ≡ ok (record { low = r.low; size = r.wires })) × (r.next ≡ n)
+Sizes o n (Err e) = o ≡ refuse (number_of e) 0
 
 -- from bounds in hand
 unfoldable pub size_of : ℤ → ℤ → Out Shape
@@ -120,30 +122,29 @@ sort-head {k = k} {v = v} (vector a b) h = rw (lies-first h.lies) (head-of k 1 v
 sort-head {k = k} {v = v} num h = rw (lies-first h.lies) (head-of k 2 v (omega arith) h.value)
 
 module _ (ρ : Env) {t : List ℕ} {at end k v : ℕ} where
-  pub is-wire : (s : Sort ℕ) → HereSort t at end k v s → head_in (get_or t at 0) ≡ 0 → Sizes (shape ρ s) (at + length (sort_w slot_w k v s)) (Wires (pos 0) 1 (at + 1))
+  pub is-wire : (s : Sort ℕ) → HereSort t at end k v s → head_in (get_or t at 0) ≡ 0 → Sizes (shape ρ s) (at + length (sort_w slot_w k v s)) (Ok (record { low = pos 0; wires = 1; next = at + 1 }))
   unfolding sort_w head_for Sizes shape
   is-wire wire h e = (refl, refl)
   is-wire (vector a b) h e = absurd (omega (arith, sort-head (vector a b) h))
   is-wire num h e = absurd (omega (arith, sort-head num h))
 
-  pub is-num : (s : Sort ℕ) → HereSort t at end k v s → head_in (get_or t at 0) ≡ 2 → Sizes (shape ρ s) (at + length (sort_w slot_w k v s)) (Wires (pos 0) 0 (at + 1))
+  pub is-num : (s : Sort ℕ) → HereSort t at end k v s → head_in (get_or t at 0) ≡ 2 → Sizes (shape ρ s) (at + length (sort_w slot_w k v s)) (Ok (record { low = pos 0; wires = 0; next = at + 1 }))
   unfolding sort_w head_for Sizes shape
   is-num wire h e = absurd (omega (arith, sort-head wire h))
   is-num (vector a b) h e = absurd (omega (arith, sort-head (vector a b) h))
   is-num num h e = (refl, refl)
 
 -- a vector: its bounds one after the other
-pub record Bounds (t : List ℕ) (at end k v : ℕ) (s : Sort ℕ) : Type 0 where
+pub record Pair (t : List ℕ) (at end k v : ℕ) (s : Sort ℕ) : Type 0 where
   pub first : Exp ℕ
   pub second : Exp ℕ
   pub is : s ≡ vector first second
-  pub here : Here t (at + 1) end first
-  pub next : Here t (at + 1 + length (exp_w slot_w 0 first)) end second
+  pub here : HereTwo t (at + 1) end first second
   pub after : at + 1 + length (exp_w slot_w 0 first) + length (exp_w slot_w 0 second) ≡ at + length (sort_w slot_w k v s)
 
-bounds-vector : {t : List ℕ} {at end k v : ℕ} (a b : Exp ℕ) → HereSort t at end k v (vector a b) → Bounds t at end k v (vector a b)
+pair-vector : {t : List ℕ} {at end k v : ℕ} (a b : Exp ℕ) → HereSort t at end k v (vector a b) → Pair t at end k v (vector a b)
 unfolding sort_w AllSort
-bounds-vector {t} {at} {end} {k} {v} a b h =
+pair-vector {t} {at} {end} {k} {v} a b h =
     let n = length-append (exp_w slot_w 0 a) (exp_w slot_w 0 b) in
     let l = lies-rest h.lies in
     let m = lies-right (exp_w slot_w 0 a) (exp_w slot_w 0 b) l in
@@ -153,72 +154,79 @@ bounds-vector {t} {at} {end} {k} {v} a b h =
       second = b;
       is = refl;
       here = record {
-        grouped = h.grouped.0;
-        lies = lies-left (exp_w slot_w 0 a) (exp_w slot_w 0 b) l;
-        within = omega (arith, h.within, n);
-        limit = h.limit;
-        short = h.short;
-        stops = stops_first t _ end b h.grouped.1 m (omega (arith, h.within, h.short, n));
-      };
-      next = record {
-        grouped = h.grouped.1;
-        lies = m;
-        within = omega (arith, h.within, n);
-        limit = h.limit;
-        short = h.short;
-        stops = subst (λ i. goes_on t i end ≡ false) (sym e) h.stops;
+        first = record {
+          grouped = h.grouped.0;
+          lies = lies-left (exp_w slot_w 0 a) (exp_w slot_w 0 b) l;
+          within = omega (arith, h.within, n);
+          limit = h.limit;
+          short = h.short;
+          stops = stops_first t _ end b h.grouped.1 m (omega (arith, h.within, h.short, n));
+        };
+        second = record {
+          grouped = h.grouped.1;
+          lies = m;
+          within = omega (arith, h.within, n);
+          limit = h.limit;
+          short = h.short;
+          stops = subst (λ i. goes_on t i end ≡ false) (sym e) h.stops;
+        };
       };
       after = e;
     }
 
-pub bounds : {t : List ℕ} {at end k v : ℕ} (s : Sort ℕ) → HereSort t at end k v s → (head_in (get_or t at 0) ≡ 0 → ⊥) → (head_in (get_or t at 0) ≡ 2 → ⊥) → Bounds t at end k v s
+pub pair : {t : List ℕ} {at end k v : ℕ} (s : Sort ℕ) → HereSort t at end k v s → (head_in (get_or t at 0) ≡ 0 → ⊥) → (head_in (get_or t at 0) ≡ 2 → ⊥) → Pair t at end k v s
 unfolding head_for
-bounds wire h n m = absurd (n (sort-head wire h))
-bounds (vector a b) h n m = bounds-vector a b h
-bounds num h n m = absurd (m (sort-head num h))
+pair wire h n m = absurd (n (sort-head wire h))
+pair (vector a b) h n m = pair-vector a b h
+pair num h n m = absurd (m (sort-head num h))
 
-module _ (ρ : Env) {t : List ℕ} {at end k v : ℕ} (s : Sort ℕ) (b : Bounds t at end k v s) where
-  pub wrong_first : eval ρ b.first ≡ refuse 10 0 → shape ρ s ≡ refuse 10 0
-  unfolding shape ◌>>=◌
-  wrong_first e = rw (b.is, e)
+module _ (ρ : Env) {t : List ℕ} {at end k v : ℕ} (s : Sort ℕ) (b : Pair t at end k v s) where
+  wrong_pair : both-bounds ρ b.first b.second ≡ refuse 10 0 → shape ρ s ≡ refuse 10 0
+  unfolding shape ◌>>=◌ size_of
+  wrong_pair e = rw b.is (bounds-refused ρ b.first b.second (λ x y. size_of x y) e)
 
-  pub wrong_second : {x : ℤ} → eval ρ b.first ≡ ok x → eval ρ b.second ≡ refuse 10 0 → shape ρ s ≡ refuse 10 0
-  unfolding shape ◌>>=◌
-  wrong_second e f = rw (b.is, e, f)
-
-  pub vector-size : {x y : ℤ} → eval ρ b.first ≡ ok x → eval ρ b.second ≡ ok y → shape ρ s ≡ size_of x y
+  vector-size : {x y : ℤ} → eval ρ b.first ≡ ok x → eval ρ b.second ≡ ok y → shape ρ s ≡ size_of x y
   unfolding shape ◌>>=◌ size_of
   vector-size e f = rw (b.is, e, f)
+
+  pub not-sized : (m n : ℕ) → SaysTwo ρ b.first b.second m None → Sizes (shape ρ s) n (Err OutOfRange)
+  unfolding SaysTwo Sizes
+  not-sized m n e = wrong_pair e
+
+  pub vector-sized : (r : Bounds) (z : Result Size Reason) → SaysTwo ρ b.first b.second (at + 1 + length (exp_w slot_w 0 b.first) + length (exp_w slot_w 0 b.second)) (Some r)
+      → Sizes (size_of r.first r.last) r.next z → Sizes (shape ρ s) (at + length (sort_w slot_w k v s)) z
+  unfolding SaysTwo
+  vector-sized r z e h = rw (vector-size e.0 e.1, sym (e.2 ∙ b.after)) h
 
 -- ---- a vector's size from its bounds
 
 abbrev From : ℤ → ℤ → Out Shape
 From y d = width d >>= λ n. ok (record { low = y; size = n })
 
-from-below : (y d : ℤ) → Not ≡ apart_of d → From y d ≡ refuse 11 0
+from-below : (y d : ℤ) → None ≡ apart_of d → From y d ≡ refuse 11 0
 unfolding apart_of width ◌>>=◌
 from-below y (pos k) e = let z : ◌≡◌ {A = ℕ} 0 1 = cc in absurd (omega arith)
 from-below y (negsuc k) e = refl
 
-from-over : (y d : ℤ) {k : ℕ} → By k ≡ apart_of d → 256 ≤ k → From y d ≡ refuse 11 0
+from-over : (y d : ℤ) {k : ℕ} → Some k ≡ apart_of d → 256 ≤ k → From y d ≡ refuse 11 0
 unfolding apart_of width ◌>>=◌ need
 from-over y (pos j) {k} e h = let q : k ≡ j = cc in rw (lt-leb (suc j) 256 (omega arith))
 from-over y (negsuc j) e h = let z : ◌≡◌ {A = ℕ} 0 1 = cc in absurd (omega arith)
 
-from-fits : (y d : ℤ) {k : ℕ} → By k ≡ apart_of d → k < 256 → From y d ≡ ok (record { low = y; size = k + 1 })
+from-fits : (y d : ℤ) {k : ℕ} → Some k ≡ apart_of d → k < 256 → From y d ≡ ok (record { low = y; size = k + 1 })
 unfolding apart_of width ◌>>=◌ need
 from-fits y (pos j) {k} e h = let q : k ≡ j = cc in let r : k + 1 ≡ suc j = omega arith in rw (r, le-leb (suc j) 256 (omega arith))
 from-fits y (negsuc j) e h = let z : ◌≡◌ {A = ℕ} 0 1 = cc in absurd (omega arith)
 
 module _ (x y : ℤ) (n : ℕ) where
-  pub size_below : Not ≡ apart_of (x -ℤ y) → Sizes (size_of x y) n (Wrong 11)
+  pub size_below : None ≡ apart_of (x -ℤ y) → Sizes (size_of x y) n (Err WrongVector)
   unfolding Sizes size_of
   size_below e = from-below y (x -ℤ y) e
 
-  pub size-over : {k : ℕ} → By k ≡ apart_of (x -ℤ y) → 256 ≤ k → Sizes (size_of x y) n (Wrong 11)
+  pub size-over : {k : ℕ} → Some k ≡ apart_of (x -ℤ y) → 256 ≤ k → Sizes (size_of x y) n (Err WrongVector)
   unfolding Sizes size_of
   size-over e h = from-over y (x -ℤ y) e h
 
-  pub size_fits : {k : ℕ} → By k ≡ apart_of (x -ℤ y) → k < 256 → Sizes (size_of x y) n (Wires y (k + 1) n)
+  pub size_fits : {k : ℕ} → Some k ≡ apart_of (x -ℤ y) → k < 256 → Sizes (size_of x y) n (Ok (record { low = y; wires = k + 1; next = n }))
   unfolding Sizes size_of
   size_fits e h = (from-fits y (x -ℤ y) e h, refl)

@@ -1,7 +1,7 @@
 -- Factors taken from the tape one by one: what is left of an expression's factors at each turn. Assumes nothing.
 use Rattle.std.proofs.Math.Path.{◌≡◌, refl, sym, ap, subst}
 use Rattle.std.proofs.Common.{◌∙◌, arith, lt-ltb, le-leb, le-ltb}
-use Rattle.std.specs.Prelude.{ℕ, ◌+◌, ◌≤◌, ◌<◌, get_or, eqb, ℤ, pos}
+use Rattle.std.specs.Prelude.{ℕ, ◌+◌, ◌≤◌, ◌<◌, get_or, eqb, ℤ, pos, Option, Some, None}
 use Rattle.std.proofs.Math.Bool.{true, false}
 use mathlib.Core.List.{List, [], ◌∷◌}
 use Rattle.std.proofs.Math.ListN.{length, length-append}
@@ -13,8 +13,7 @@ use Rattle.tape.specs.Layout.{pack, kind_of, head_in, value_of, kind-of, head-of
 use Rattle.tape.specs.Encoding.{exp_w, list_w}
 use Rattle.tape.specs.Resolved.{slot_w}
 use Rattle.tape.specs.Lies.{Lies, lies-first, lies-rest, lies-left, lies-right}
-use Rattle.values.specs.declared.Number.{Number}
-use Rattle.values.specs.declared.Value.{Value}
+use Rattle.values.specs.declared.Valued.{Valued}
 use Rattle.values.specs.declared.Sum.{Sum}
 use Rattle.values.specs.Numbers.{clipped, value, value-is}
 use Rattle.values.specs.Factors.{Factor, factors, step, steps, total, nothing, steps-value}
@@ -25,7 +24,7 @@ unfoldable pub after_of : List ℕ → ℕ → ℕ
 after_of t i = pick (eqb (kind_of (get_or t i 0)) 2) (i + 1 + value_of (get_or t i 0)) (i + 1)
 
 -- the value of a factor that is one word
-unfoldable pub plain_of : List ℤ → ℕ → Number
+unfoldable pub plain_of : List ℤ → ℕ → Option ℤ
 plain_of vs w = pick (eqb (kind_of w) 1) (clipped (get_or vs (value_of w) (pos 0))) (clipped (pos (value_of w)))
 
 -- ---- the first word of a factor
@@ -256,21 +255,32 @@ module _ {ρ : Env} {t : List ℕ} {at end : ℕ} {e : Exp ℕ} {i : ℕ} {s : S
         within = omega (arith, then-ends h l, h.within);
       }
 
-  then_is : (head : ℕ) (v : Number) (s' : Sum) → s' ≡ step head v s → head ≡ head_in (get_or t i 0) → v ≡ value ρ l.first.base → s' ≡ Then l
+  then_is : (head : ℕ) (v : Option ℤ) (s' : Sum) → s' ≡ step head v s → head ≡ head_in (get_or t i 0) → v ≡ value ρ l.first.base → s' ≡ Then l
   then_is head v s' p q r = p ∙ rw (q, r)
 
-  pub onward : (head next : ℕ) (v : Number) (s' : Sum) → s' ≡ step head v s → head ≡ head_in (get_or t i 0) → v ≡ value ρ l.first.base → next ≡ after_of t i
+  pub onward : (head next : ℕ) (v : Option ℤ) (s' : Sum) → s' ≡ step head v s → head ≡ head_in (get_or t i 0) → v ≡ value ρ l.first.base → next ≡ after_of t i
       → goes_on t next end ≡ true → Left ρ t at e next s'
   onward head next v s' p q r n g = rw (then_is head v s' p q r, n) (go_on h l (rw n at g))
 
-  pub ending : (head next : ℕ) (v : Number) (s' : Sum) (a : Value) → s' ≡ step head v s → head ≡ head_in (get_or t i 0) → v ≡ value ρ l.first.base → next ≡ after_of t i
+  ending : (head next : ℕ) (v : Option ℤ) (s' : Sum) (a : Option Valued) → s' ≡ step head v s → head ≡ head_in (get_or t i 0) → v ≡ value ρ l.first.base → next ≡ after_of t i
       → goes_on t next end ≡ false → a ≡ value_at (total s') next → Says (eval ρ e) (at + length (exp_w slot_w 0 e)) a
   ending head next v s' a p q r n g w =
       let f = finish h l (rw n at g) in
       let x : a ≡ value_at (value ρ e) (at + length (exp_w slot_w 0 e)) = w ∙ rw (then_is head v s' p q r, n, f.0, f.1) in
       rw (x, ← (value-is ρ e)) (says-value (value ρ e) (at + length (exp_w slot_w 0 e)))
 
+  -- the code's two returns
+  pub ended : (head next : ℕ) (v : Option ℤ) (s' : Sum) {z : ℤ} → s' ≡ step head v s → head ≡ head_in (get_or t i 0) → v ≡ value ρ l.first.base → next ≡ after_of t i
+      → goes_on t next end ≡ false → total s' ≡ Some z → Says (eval ρ e) (at + length (exp_w slot_w 0 e)) (Some (record { value = z; next = next }))
+  unfolding value_at
+  ended head next v s' p q r n g w = ending head next v s' _ p q r n g (rw w)
+
+  pub ended_beyond : (head next : ℕ) (v : Option ℤ) (s' : Sum) → s' ≡ step head v s → head ≡ head_in (get_or t i 0) → v ≡ value ρ l.first.base → next ≡ after_of t i
+      → goes_on t next end ≡ false → total s' ≡ None → Says (eval ρ e) (at + length (exp_w slot_w 0 e)) None
+  unfolding value_at
+  ended_beyond head next v s' p q r n g w = ending head next v s' _ p q r n g (rw w)
+
 -- the number of a bracket is that of the expression in it
-pub bracket-value : (ρ : Env) {t : List ℕ} {i next : ℕ} (e : Exp ℕ) (b : Inside t i next e) (n : ℕ) (r : Value) → Says (eval ρ b.exp) n r → number_in r ≡ value ρ e
+pub bracket-value : (ρ : Env) {t : List ℕ} {i next : ℕ} (e : Exp ℕ) (b : Inside t i next e) (n : ℕ) (r : Option Valued) → Says (eval ρ b.exp) n r → number_in r ≡ value ρ e
 unfolding value
 bracket-value ρ e b n r s = says-number (value ρ b.exp) n r (rw (value-is ρ b.exp) s) ∙ rw b.is

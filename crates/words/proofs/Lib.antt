@@ -1,6 +1,4 @@
-pub mod Table
-pub mod Classes
-pub mod Runs
-pub mod Same
-pub mod Spelled
+pub mod Library
+pub mod Digits
+pub mod Beginnings
 pub mod Places

@@ -16,8 +16,7 @@ use Rattle.rules.specs.declared.Word.TheVariants.{Name, Number, Mark}
 use Rattle.rules.proofs.Laws.Outcomes.{both_yes}
 use Rattle.rules.proofs.Laws.Placed.{pick-of, run-most, run-some}
 use Rattle.words.specs.Onward.{Onward, width, widths, wide}
-use Rattle.words.proofs.Classes.{either}
-use Rattle.words.proofs.Same.{found-length}
+use Rattle.words.proofs.Library.{either, found-length}
 
 -- ---- the value of six digits
 

@@ -1,2 +1,2 @@
-pub mod Classes
+pub mod Found
 pub mod Onward

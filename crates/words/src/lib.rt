@@ -1,220 +1,150 @@
 // The word that stands at a place of a text (01, "Words and order of words").
 #![tactic(auto)]
 
-ghost use Rattle.std.specs.Prelude.{◌≡◌, ◌&&◌, map, ℕ, ◌+◌, ◌-◌, ◌<◌, ◌≤◌, length, take, drop, get_or, leb, eqb};
-ghost use Rattle.rules.specs.Text.{bytes, pick, same, index_of};
-ghost use Rattle.rules.specs.Words.{is_letter, reserved, run, value_of, spelled, word_at};
-ghost use Rattle.rules.specs.declared.Word.TheVariants.{Bad, Name, Mark};
-ghost use Rattle.words.specs.Classes.{class_of, in_classes};
+ghost use Rattle.std.specs.Prelude.{◌≡◌, Some, None, true, ℕ, List, map, ◌+◌, ◌<◌, ◌≤◌, length, eqb};
+ghost use denote.Ref.{Bor};
+ghost use Rattle.std.specs.List.{position, prefix_len, list_all};
+ghost use Rattle.std.specs.Char.{is_ascii_digit};
+ghost use Rattle.std.specs.Cmp.Lexicographic.{pointwise};
+ghost use Rattle.rules.specs.Text.{bytes, pick, is_in, index_of};
+ghost use Rattle.rules.specs.Words.{is_separator, is_digit, is_mark, in_word, reserved, all, value_of, spelled, begun, word_at};
+ghost use Rattle.words.specs.Found.{place};
 ghost use Rattle.words.specs.Onward.{Onward};
 
 use rules::Word;
 
-const SEPARATOR: u8 = 1;
-
-const DIGIT: u8 = 2;
-
-const LETTER: u8 = 3;
-
-const UNDERSCORE: u8 = 4;
-
-const MARK: u8 = 5;
-
-const DOT: u8 = 6;
-
-const CLASSES: [u8; 256] = [
-    0, 0, 0, 0, 0, 0, 0, 0, 0, 1, 1, 0, 0, 1, 0, 0, 0, 0, 0, 0, 0, 0, 0, 0, 0, 0, 0, 0, 0, 0, 0, 0,
-    1, 0, 0, 0, 0, 0, 0, 0, 5, 5, 5, 5, 5, 5, 6, 0, 2, 2, 2, 2, 2, 2, 2, 2, 2, 2, 5, 5, 0, 5, 0, 0,
-    0, 3, 3, 3, 3, 3, 3, 3, 3, 3, 3, 3, 3, 3, 3, 3, 3, 3, 3, 3, 3, 3, 3, 3, 3, 3, 3, 5, 0, 5, 0, 4,
-    0, 3, 3, 3, 3, 3, 3, 3, 3, 3, 3, 3, 3, 3, 3, 3, 3, 3, 3, 3, 3, 3, 3, 3, 3, 3, 3, 0, 0, 0, 0, 0,
-    0, 0, 0, 0, 0, 0, 0, 0, 0, 0, 0, 0, 0, 0, 0, 0, 0, 0, 0, 0, 0, 0, 0, 0, 0, 0, 0, 0, 0, 0, 0, 0,
-    0, 0, 0, 0, 0, 0, 0, 0, 0, 0, 0, 0, 0, 0, 0, 0, 0, 0, 0, 0, 0, 0, 0, 0, 0, 0, 0, 0, 0, 0, 0, 0,
-    0, 0, 0, 0, 0, 0, 0, 0, 0, 0, 0, 0, 0, 0, 0, 0, 0, 0, 0, 0, 0, 0, 0, 0, 0, 0, 0, 0, 0, 0, 0, 0,
-    0, 0, 0, 0, 0, 0, 0, 0, 0, 0, 0, 0, 0, 0, 0, 0, 0, 0, 0, 0, 0, 0, 0, 0, 0, 0, 0, 0, 0, 0, 0, 0,
+const RESERVED: [&[u8]; 14] = [
+    b"BLOCK",
+    b"VAR",
+    b"BEGIN",
+    b"END",
+    b"GENERATE",
+    b"FOR",
+    b"IF",
+    b"THEN",
+    b"WIRE",
+    b"VECTOR",
+    b"OF",
+    b"NUM",
+    b"BESIDE",
+    b"BELOW",
 ];
 
-fn class_of(b: u8) -> u8
-    ensures { result ≡ class_of b }
+fn is_separator(b: u8) -> bool
+    ensures { result ≡ is_separator b }
 {
-    CLASSES[b as usize]
+    matches!(b, b' ' | b'\t' | b'\r' | b'\n')
 }
 
-// Where the run of bytes of the classes `lo` to `hi` that begins at `at` ends.
-fn run_end(text: &[u8], at: usize, lo: u8, hi: u8) -> usize
-    ensures { result ≡ at + run (in_classes lo hi) (drop at text.now) }
+fn in_word(b: u8) -> bool
+    ensures { result ≡ in_word b }
 {
-    let mut i = at;
-    while i < text.len() {
-        let class = class_of(text[i]);
-        if class < lo {
-            return i;
-        }
-        if hi < class {
-            return i;
-        }
-        i += 1;
-    }
-    i
+    b.is_ascii_alphanumeric() || b == b'_'
 }
 
-fn digit(b: u8) -> usize
-    ensures { result ≡ b - 48 }
+// A mark of one byte.
+fn is_mark(b: u8) -> bool
+    ensures { result ≡ is_mark b }
 {
-    if b < 48 { 0 } else { (b - 48) as usize }
+    matches!(b, b'('..=b'-' | b':' | b';' | b'=' | b'[' | b']')
 }
 
-// The number that the digits from `at` to `end` say.
-fn value(text: &[u8], at: usize, end: usize) -> usize
-    requires { (at ≤ end) × (end ≤ length text.now) × (end ≤ at + 6) }
-    ensures { result ≡ value_of 0 (take (end - at) (drop at text.now)) }
+// How many separators a text begins with.
+fn separators(text: &[u8]) -> usize
+    ensures { result ≡ prefix_len is_separator text.now }
 {
-    let mut v: usize = 0;
-    let mut i = at;
-    while i < end {
-        v = v * 10 + digit(text[i]);
-        i += 1;
+    text.iter().take_while(|b| is_separator(**b)).count()
+}
+
+// How long the word is with which a text begins.
+fn letters(text: &[u8]) -> usize
+    ensures { result ≡ prefix_len in_word text.now }
+{
+    text.iter().take_while(|b| in_word(**b)).count()
+}
+
+// Which of the words it is, counted from 0.
+#[tactic(auto, unfolding(crate::specs::Found::place))]
+fn place(words: &[&[u8]], word: &[u8]) -> Option<usize>
+    ensures { result ≡ place word.now words.now }
+{
+    words.iter().position(|w| word == *w)
+}
+
+// Which reserved word it is, counted from 0.
+#[tactic(auto, using(crate::proofs::Library::place_is))]
+fn reserved(word: &[u8]) -> Option<usize>
+    ensures { result ≡ pick (is_in word.now (map bytes reserved)) (Some (index_of word.now (map bytes reserved))) None }
+{
+    place(&RESERVED, word)
+}
+
+fn all_digits(word: &[u8]) -> bool
+    ensures { result ≡ list_all is_ascii_digit word.now }
+{
+    word.iter().all(|b| b.is_ascii_digit())
+}
+
+// The number that digits say.
+fn value(digits: &[u8]) -> usize
+    requires { (length digits.now ≤ 6) × (all is_digit digits.now ≡ true) }
+    ensures { result ≡ value_of 0 digits.now }
+{
+    let mut v = 0;
+    for b in digits {
+        v = v * 10 + usize::from(b - b'0');
     }
     v
 }
 
-// Whether the bytes from `start` to `end` are those of `word`.
-fn is_word(text: &[u8], start: usize, end: usize, word: &[u8]) -> bool
-    requires { (start ≤ end) × (end ≤ length text.now) }
-    ensures { result ≡ same (take (end - start) (drop start text.now)) word.now }
-{
-    if end - start != word.len() {
-        return false;
-    }
-    let mut i = 0;
-    while i < word.len() {
-        if text[start + i] != word[i] {
-            return false;
-        }
-        i += 1;
-    }
-    true
-}
-
-// Which reserved word stands from `start` to `end`, counted from 0; 14 if none does.
-fn reserved(text: &[u8], start: usize, end: usize) -> usize
-    requires { (start ≤ end) × (end ≤ length text.now) }
-    ensures { result ≡ index_of (take (end - start) (drop start text.now)) (map bytes reserved) }
-{
-    if is_word(text, start, end, b"BLOCK") {
-        return 0;
-    }
-    if is_word(text, start, end, b"VAR") {
-        return 1;
-    }
-    if is_word(text, start, end, b"BEGIN") {
-        return 2;
-    }
-    if is_word(text, start, end, b"END") {
-        return 3;
-    }
-    if is_word(text, start, end, b"GENERATE") {
-        return 4;
-    }
-    if is_word(text, start, end, b"FOR") {
-        return 5;
-    }
-    if is_word(text, start, end, b"IF") {
-        return 6;
-    }
-    if is_word(text, start, end, b"THEN") {
-        return 7;
-    }
-    if is_word(text, start, end, b"WIRE") {
-        return 8;
-    }
-    if is_word(text, start, end, b"VECTOR") {
-        return 9;
-    }
-    if is_word(text, start, end, b"OF") {
-        return 10;
-    }
-    if is_word(text, start, end, b"NUM") {
-        return 11;
-    }
-    if is_word(text, start, end, b"BESIDE") {
-        return 12;
-    }
-    if is_word(text, start, end, b"BELOW") {
-        return 13;
-    }
-    14
-}
-
-// A name from `p` to `end`, if the word there is one.
-#[tactic(auto, using(crate::proofs::Spelled::name_by_length))]
-fn name(text: &[u8], p: usize, end: usize) -> Word
-    requires { (p < end) × (end ≤ length text.now) }
-    ensures { result ≡ pick (is_letter (get_or text.now p 0) && leb (end - p) 16) (Name p end) (Bad p) }
-{
-    if class_of(text[p]) != LETTER {
-        return Word::Bad(p);
-    }
-    if end - p <= 16 {
-        Word::Name(p, end)
-    } else {
-        Word::Bad(p)
-    }
-}
-
 // The word from `p` to `end` by its letters.
-#[tactic(auto, using(crate::proofs::Spelled::words_by_length))]
-fn spell(text: &[u8], p: usize, end: usize) -> Word
-    requires { (p < end) × (end ≤ length text.now) }
-    ensures { result ≡ spelled p end (take (end - p) (drop p text.now)) }
+#[tactic(auto, using(crate::proofs::Digits::digits_are), unfolding(rules::specs::Words::spelled, rules::specs::Text::pick))]
+fn spell(word: &[u8], p: usize, end: usize) -> Word
+    requires { 0 < length word.now }
+    ensures { result ≡ spelled p end word.now }
 {
-    let k = reserved(text, p, end);
-    if k < 14 {
+    if let Some(k) = reserved(word) {
         return Word::Mark(k + 1, p, end);
     }
-    if 6 < end - p {
-        return name(text, p, end);
+    if all_digits(word) && word.len() <= 6 {
+        return Word::Number(p, end, value(word));
     }
-    if run_end(text, p, DIGIT, DIGIT) < end {
-        return name(text, p, end);
+    if word[0].is_ascii_alphabetic() && word.len() <= 16 {
+        return Word::Name(p, end);
     }
-    Word::Number(p, end, value(text, p, end))
+    Word::Bad(p)
 }
 
-// Two dots from `p` on are a mark, and one is none.
-fn dots(text: &[u8], p: usize) -> Word
+// The word that begins at `p`.
+#[tactic(auto, using(crate::proofs::Beginnings::beginnings))]
+fn begun(text: &[u8], p: usize) -> Word
     requires { p < length text.now }
-    ensures { result ≡ pick (eqb (get_or text.now (p + 1) 0) 46) (Mark 46 p (p + 2)) (Bad p) }
+    ensures { result ≡ begun text.now p }
 {
-    if text.len() <= p + 1 {
-        return Word::Bad(p);
+    let b = text[p];
+    if in_word(b) {
+        let end = p + letters(&text[p..]);
+        return spell(&text[p..end], p, end);
     }
-    if text[p + 1] == 46 {
-        Word::Mark(46, p, p + 2)
-    } else {
-        Word::Bad(p)
+    if is_mark(b) {
+        return Word::Mark(usize::from(b), p, p + 1);
     }
+    if text[p..].starts_with(b"..") {
+        return Word::Mark(usize::from(b), p, p + 2);
+    }
+    Word::Bad(p)
 }
 
 // The first word at or after `at`; at the end of the text, the end.
+#[tactic(auto, using(crate::proofs::Beginnings::places))]
 pub fn word_at(text: &[u8], at: usize) -> Word
     ensures value { result ≡ word_at text.now at }
     ensures onward { Onward (length text.now) at result }
 {
-    let p = run_end(text, at, SEPARATOR, SEPARATOR);
-    if text.len() <= p {
-        return Word::Mark(0, text.len(), text.len());
+    let start = at.min(text.len());
+    let p = start + separators(&text[start..]);
+    if p < text.len() {
+        return begun(text, p);
     }
-    let end = run_end(text, p, DIGIT, UNDERSCORE);
-    if p < end {
-        return spell(text, p, end);
-    }
-    let b = text[p];
-    let class = class_of(b);
-    if class == MARK {
-        return Word::Mark(b as usize, p, p + 1);
-    }
-    if class == DOT {
-        return dots(text, p);
-    }
-    Word::Bad(p)
+    Word::Mark(0, text.len(), text.len())
 }

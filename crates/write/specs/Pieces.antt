@@ -56,6 +56,17 @@ pub gate-of : (g : Gate) → gate_text g ≡ joined (gate_of g)
 unfolding gate_text
 gate-of g = refl
 
+-- the name of a kind, a blank and a bracket
+abbrev pub call_of : ℕ → List (List ℕ)
+call_of kind = (primitive kind).name ∷ bytes " [" ∷ []
+
+abbrev pub gate_parts : Gate → List (List ℕ)
+gate_parts g = joined (call_of g.kind) ∷ wires_text (inputs_at g) ∷ bytes "] [" ∷ wire_text g.out ∷ bytes "]" ∷ []
+
+pub gate-parts : (g : Gate) → gate_text g ≡ joined (gate_parts g)
+unfolding gate_text joined
+gate-parts g = sym (append_assoc (primitive g.kind).name (bytes " [") _)
+
 -- ---- lists: the first entry apart from the rest, and none. Code counts up to n, the definitions count down
 
 pub ports-open : (s n i : ℕ) → i < n

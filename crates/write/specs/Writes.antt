@@ -1,14 +1,15 @@
 -- Laws that the writer's proofs cite. Assumes nothing.
-use Rattle.std.specs.Prelude.{◌≡◌, List, [], ◌∷◌, ◌++◌, ℕ, ◌+◌, ◌-◌, ◌≤◌, ◌<◌, length, drop, take}
+use Rattle.std.specs.Prelude.{◌≡◌, List, ◌++◌, ℕ, ◌+◌, ◌-◌, ◌≤◌, ◌<◌, length, drop, take, Option, None, Some, MatchOption, Result}
+use Rattle.std.specs.Option.{ok_or}
 use Rattle.std.proofs.Common.{sym, ap, subst, ◌∙◌, arith, length-append, take_at}
 use Rattle.std.proofs.lemmas.List.Edits.{sets, sets-eq}
 use Rattle.rules.specs.Netlist.{WellFormed}
-use Rattle.rules.specs.Flat.{between, flat_text}
+use Rattle.rules.specs.Flat.{flat_text}
 use Rattle.clear.specs.Zeros.{zeros, zeros-long, drop-zeros}
-use Rattle.netlist.specs.Answers.{done, refused}
+use Rattle.rules.specs.declared.Reason.{Reason}
+use Rattle.netlist.specs.Answers.{done, refused, told, its_length}
 use Rattle.write.specs.Wrote.{Wrote, short-text, bad-netlist, wrote}
 use Rattle.write.specs.Put.{Put}
-use Rattle.write.specs.Pieces.{between-some}
 use Rattle.write.specs.Fits.{flat-fits}
 
 -- a word that is held with zeros after it is what its first letters are
@@ -35,5 +36,9 @@ module _ {w t : List ℕ} {len : ℕ} (e : t ≡ zeros len) where
       ∙ ap (λ (l : List ℕ). flat_text w ++ l) (drop-zeros len (length (flat_text w))) in
       subst (λ (m : ℕ). Wrote w len (done m) u) (sym i) (subst (λ (l : List ℕ). Wrote w len (done (length (flat_text w))) l) (sym j) (wrote h wf))
 
-pub between-room : (b n : ℕ) → (n ≡ 0 → ⊥) → length (between (b ∷ []) n) ≡ 1
-between-room b n h = ap length (between-some (b ∷ []) n h)
+  -- the text was put if there was room, and there is
+  pub wrote-if : {u : List ℕ} {o : Result ℕ Reason} (r : Option ℕ) (reason : Reason) → 65536 ≤ len → WellFormed w → o ≡ ok_or r reason
+      → MatchOption r (length t < length (flat_text w)) (λ n. Put t 0 (flat_text w) n u) → Wrote w len (told its_length o) u
+  unfolding told
+  wrote-if None reason h wf f p = absurd (omega (arith, p, ap length e, zeros-long len, flat-fits w wf))
+  wrote-if (Some n) reason h wf f p = rw f (wrote-done h wf p)

@@ -1,13 +1,13 @@
-use Rattle.compare.specs.Match.{unseen-at, seen-so}
-use Rattle.netlist.specs.Decides.{so, not_so}
-use native.Mathlib.Omega.{arith}
+use Rattle.std.proofs.Common.{arith}
+use Rattle.netlist.specs.Decides.{not_so}
+use Rattle.compare.specs.Match.{past_end}
+use Rattle.compare.specs.Rest.{starts-if}
 use Rattle.compare.proofs.calls.Goals as goal
 
-pub returns-then-at-text : goal.returns-then-at-text
-returns-then-at-text c = not_so (λ s. omega (arith, s.inside, c.if-at-text.true))
-
 pub returns-in_default : goal.returns-in_default
-returns-in_default c = not_so (unseen-at c.see_call.ensures c.in_default.is)
+returns-in_default c = not_so (past_end c.args.text.now c.args.at _ (omega (arith, c.in_default.ensures.lookup.0)))
 
 pub returns : goal.returns
-returns c = so (seen-so c.see_call.ensures c.in-To.is)
+returns c =
+    let h = c.in-Some.ensures.lookup.0 in
+    starts-if (record { text = c.in-Some.text }) c.call.new.to _ h.0 h.2 c.call.ensures c.is_some.ensures

@@ -1,117 +1,107 @@
-use Prim.Native.Nat.{◌+◌, ◌≤◌, ◌<◌}
+use Rattle.std.proofs.Common.{◌≡◌, ◌+◌, ◌≤◌, ◌<◌, sym, ◌∙◌, rules, arith, Err, Some, None, SFits, w32, to_z-of_z}
+use Rattle.rules.specs.declared.Reason.TheVariants.{OutOfRange, OutsideVector}
 use Rattle.frames.specs.Args.{arg_name, Finds, Fits, arg-room, arg-name, a-part, finds-whole, finds-beyond, finds-below, finds-above, finds-one}
-use Rattle.frames.specs.Stands.{name-inside}
+use Rattle.frames.specs.Stands.{name-inside, vector_at}
 use Rattle.values.specs.Here.{Says}
-use Rattle.values.specs.Sizes.{apart_of}
-use lib.IntN.{pos, ◌-ℤ◌}
-use lib.ListN.{get_or}
-use mathlib.Core.Path.{◌≡◌, ◌∙◌, sym}
-use mir.Facts.{to_z-of_z}
-use mir.Syntax.{w32}
-use mir.Val.{SFits}
-use native.Mathlib.Omega.{arith}
-use borrow.Author.Rules.{rules}
 use Rattle.frames.proofs.argument.Goals as goal
-
-pub offset_bounds-tape-at : goal.offset_bounds-tape-at
-offset_bounds-tape-at c = let r = (arg-room c.requires.here).1 in search rules
 
 pub bounds-tape-at : goal.bounds-tape-at
 bounds-tape-at c = (arg-room c.requires.here).0
 
-pub overflow_add-result : goal.overflow_add-result
-overflow_add-result c = let r = (arg-room c.requires.here).1 in search rules
+pub bounds-frame-value_of : goal.bounds-frame-value_of
+bounds-frame-value_of c = omega (arith, c.value_of.ensures ∙ arg-name _ c.requires.stands.few c.requires.here, c.requires.stands.few, c.requires.here.slot)
 
-pub returns-then-head_of-eq0 : goal.returns-then-head_of-eq0
+pub bounds-frame-value_of-2 : goal.bounds-frame-value_of-2
+bounds-frame-value_of-2 c = omega (arith, c.value_of.ensures ∙ arg-name _ c.requires.stands.few c.requires.here, c.requires.stands.few, c.requires.here.slot)
+
+pub bounds-frame-value_of-3 : goal.bounds-frame-value_of-3
+bounds-frame-value_of-3 c = omega (arith, c.value_of.ensures ∙ arg-name _ c.requires.stands.few c.requires.here, c.requires.stands.few, c.requires.here.slot)
+
+pub returns-then-head_of-eq0-clause-finds : goal.returns-then-head_of-eq0-clause-finds
+returns-then-head_of-eq0-clause-finds c ρ σ kind a s h =
+    rw (c.value_of.ensures ∙ arg-name a s.few h) (finds-whole s a h (sym c.head_of.ensures ∙ c.if-head_of-eq0.true))
+
+pub returns-then-head_of-eq0-clause-fits : goal.returns-then-head_of-eq0-clause-fits
 unfolding Fits
-returns-then-head_of-eq0 c =
-    let slot : c.value_of-k.result ≡ arg_name c.requires.arg = c.value_of-k.ensures ∙ arg-name _ c.requires.stands.few c.requires.here in
-    let inside : get_or c.args.f.base c.value_of-k.result 0 + get_or c.args.f.len c.value_of-k.result 0 ≤ 1536 = rw slot (name-inside c.requires.stands _ c.requires.here.slot) in
-    record { finds = (λ ρ σ kind a s h. rw (c.wide-base.ensures.0, c.wide-len.ensures.0, c.value_of-k.ensures ∙ arg-name a s.few h) (finds-whole s a h (sym c.head_of.ensures ∙ c.if-head_of-eq0.true))); fits = rw (c.wide-base.ensures.0, c.wide-len.ensures.0) inside }
+returns-then-head_of-eq0-clause-fits c =
+    let slot : c.value_of.result ≡ arg_name c.requires.arg = c.value_of.ensures ∙ arg-name _ c.requires.stands.few c.requires.here in
+    rw slot (name-inside c.requires.stands _ c.requires.here.slot)
 
-pub overflow_add-at : goal.overflow_add-at
-overflow_add-at c = let r = (arg-room c.requires.here).1 in search rules
-
-pub eval-v-requires : goal.eval-v-requires
-eval-v-requires c =
+pub eval-requires : goal.eval-requires
+eval-requires c =
     let p = a-part _ c.requires.stands.few c.requires.here (λ e. c.if-head_of-eq0.false (c.head_of.ensures ∙ e)) in
     record { exp = p.exp; here = p.here }
 
-pub returns-in_default : goal.returns-in_default
-unfolding Says Finds Fits
-returns-in_default c = record {
-  finds = (λ ρ σ kind a s h.
-      let p = a-part a s.few h (λ e. c.if-head_of-eq0.false (c.head_of.ensures ∙ e)) in
-      finds-beyond s a h p (rw c.in_default.is at (c.eval-v.ensures p.exp p.here)));
-  fits = tt;
-}
+pub returns-in_err-subscript-clause-finds : goal.returns-in_err-subscript-clause-finds
+unfolding Says Finds
+returns-in_err-subscript-clause-finds c ρ σ kind a s h =
+    let p = a-part a s.few h (λ e. c.if-head_of-eq0.false (c.head_of.ensures ∙ e)) in
+    let e : c.from_residual.result ≡ Err OutOfRange = grind arith in
+    let n : c.eval.result ≡ None = grind arith in
+    rw e (finds-beyond s a h p (rw n at (c.eval.ensures p.exp p.here)))
 
-pub returns-in_default-up : goal.returns-in_default-up
-unfolding Says Finds Fits
-returns-in_default-up c =
-    let x : SFits w32 c.in-At.x = search rules in
-    let y : SFits w32 (get_or c.args.f.low c.value_of-k.result (pos 0)) = search rules in
-    let gap : c.above-up.result ≡ apart_of (c.in-At.x -ℤ get_or c.args.f.low c.value_of-k.result (pos 0)) = rw (to_z-of_z {w = w32} x, to_z-of_z {w = w32} y) at c.above-up.ensures in
-    record {
-      finds = (λ ρ σ kind a s h.
-          let p = a-part a s.few h (λ e. c.if-head_of-eq0.false (c.head_of.ensures ∙ e)) in
-          let v = rw c.in-At.is at (c.eval-v.ensures p.exp p.here) in
-          finds-below s a h p _ v.0 (sym c.in_default-up.is ∙ rw (c.value_of-k.ensures ∙ arg-name a s.few h) at gap));
-      fits = tt;
-    }
+pub returns-in_err-subscript-clause-fits : goal.returns-in_err-subscript-clause-fits
+unfolding Fits
+returns-in_err-subscript-clause-fits c = let e : c.from_residual.result ≡ Err OutOfRange = grind arith in rw e tt
 
-pub returns-then-i-len : goal.returns-then-i-len
-unfolding Says Finds Fits
-returns-then-i-len c =
-    let x : SFits w32 c.in-At.x = search rules in
-    let y : SFits w32 (get_or c.args.f.low c.value_of-k.result (pos 0)) = search rules in
-    let gap : c.above-up.result ≡ apart_of (c.in-At.x -ℤ get_or c.args.f.low c.value_of-k.result (pos 0)) = rw (to_z-of_z {w = w32} x, to_z-of_z {w = w32} y) at c.above-up.ensures in
-    record {
-      finds = (λ ρ σ kind a s h.
-          let p = a-part a s.few h (λ e. c.if-head_of-eq0.false (c.head_of.ensures ∙ e)) in
-          let v = rw c.in-At.is at (c.eval-v.ensures p.exp p.here) in
-          let q = c.value_of-k.ensures ∙ arg-name a s.few h in
-          finds-above s a h p _ v.0 (sym c.in-By.is ∙ rw q at gap) (let few = rw (c.wide-len.ensures.0, q) at c.if-i-len.true in omega (arith, few)));
-      fits = tt;
-    }
+pub returns-in_err-i-clause-finds : goal.returns-in_err-i-clause-finds
+unfolding Says Finds
+returns-in_err-i-clause-finds c ρ σ kind a s h =
+    let p = a-part a s.few h (λ e. c.if-head_of-eq0.false (c.head_of.ensures ∙ e)) in
+    let x : SFits w32 c.in_ok-subscript.subscript.value = search rules in
+    let y : SFits w32 (vector_at c.args.frame.now c.value_of.result).low = search rules in
+    let e : c.from_residual-in_err-i.result ≡ Err OutsideVector = grind arith in
+    let v : c.eval.result ≡ Some c.in_ok-subscript.subscript = grind arith in
+    let n : c.above.result ≡ None = grind arith in
+    let gap = rw (to_z-of_z {w = w32} x, to_z-of_z {w = w32} y, c.value_of.ensures ∙ arg-name a s.few h) at c.above.ensures.apart in
+    let said = rw v at (c.eval.ensures p.exp p.here) in
+    rw e (finds-below s a h p _ said.0 (sym n ∙ gap))
 
-pub returns : goal.returns
-unfolding Says Finds Fits
-returns c =
-    let slot : c.value_of-k.result ≡ arg_name c.requires.arg = c.value_of-k.ensures ∙ arg-name _ c.requires.stands.few c.requires.here in
-    let inside : get_or c.args.f.base c.value_of-k.result 0 + get_or c.args.f.len c.value_of-k.result 0 ≤ 1536 = rw slot (name-inside c.requires.stands _ c.requires.here.slot) in
-    let x : SFits w32 c.in-At.x = search rules in
-    let y : SFits w32 (get_or c.args.f.low c.value_of-k.result (pos 0)) = search rules in
-    let gap : c.above-up.result ≡ apart_of (c.in-At.x -ℤ get_or c.args.f.low c.value_of-k.result (pos 0)) = rw (to_z-of_z {w = w32} x, to_z-of_z {w = w32} y) at c.above-up.ensures in
-    record {
-      finds = (λ ρ σ kind a s h.
-          let p = a-part a s.few h (λ e. c.if-head_of-eq0.false (c.head_of.ensures ∙ e)) in
-          let v = rw c.in-At.is at (c.eval-v.ensures p.exp p.here) in
-          let q = c.value_of-k.ensures ∙ arg-name a s.few h in
-          (rw (c.wide-base.ensures.0, q) (finds-one s a h p _ v.0 (sym c.in-By.is ∙ rw q at gap) (let few = rw (c.wide-len.ensures.0, q) at c.if-i-len.false in omega (arith, few))), v.1 ∙ p.after));
-      fits = omega (arith, inside, c.wide-base.ensures.0, c.wide-len.ensures.0, c.if-i-len.false);
-    }
+pub returns-in_err-i-clause-fits : goal.returns-in_err-i-clause-fits
+unfolding Fits
+returns-in_err-i-clause-fits c = let e : c.from_residual-in_err-i.result ≡ Err OutsideVector = grind arith in rw e tt
 
-pub bounds-f-k : goal.bounds-f-k
-bounds-f-k c = omega (arith, c.value_of-k.ensures ∙ arg-name _ c.requires.stands.few c.requires.here, c.requires.stands.few, c.requires.here.slot)
+pub returns-then-i-from-clause-finds : goal.returns-then-i-from-clause-finds
+unfolding Says Finds
+returns-then-i-from-clause-finds c ρ σ kind a s h =
+    let p = a-part a s.few h (λ e. c.if-head_of-eq0.false (c.head_of.ensures ∙ e)) in
+    let x : SFits w32 c.in_ok-subscript.subscript.value = search rules in
+    let y : SFits w32 (vector_at c.args.frame.now c.value_of.result).low = search rules in
+    let v : c.eval.result ≡ Some c.in_ok-subscript.subscript = grind arith in
+    let n : c.above.result ≡ Some c.in_ok-i.i = grind arith in
+    let slot = c.value_of.ensures ∙ arg-name a s.few h in
+    let gap = rw (to_z-of_z {w = w32} x, to_z-of_z {w = w32} y, slot) at c.above.ensures.apart in
+    let said = rw v at (c.eval.ensures p.exp p.here) in
+    let past : (vector_at c.args.frame.now (arg_name a)).len ≤ c.in_ok-i.i = rw (← slot) (omega (arith, c.if-i-from.true, c.from.ensures)) in
+    finds-above s a h p _ said.0 (sym n ∙ gap) past
 
-pub offset_bounds-f-k : goal.offset_bounds-f-k
-offset_bounds-f-k c =
-    let r : c.value_of-k.result < 48 = omega (arith, c.value_of-k.ensures ∙ arg-name _ c.requires.stands.few c.requires.here, c.requires.stands.few, c.requires.here.slot) in
-    search rules
+pub returns-then-i-from-clause-fits : goal.returns-then-i-from-clause-fits
+unfolding Fits
+returns-then-i-from-clause-fits c = tt
 
-pub bounds-f-k-2 : goal.bounds-f-k-2
-bounds-f-k-2 c = omega (arith, c.value_of-k.ensures ∙ arg-name _ c.requires.stands.few c.requires.here, c.requires.stands.few, c.requires.here.slot)
+pub overflow_add-result-2 : goal.overflow_add-result-2
+overflow_add-result-2 c =
+    let slot : c.value_of.result ≡ arg_name c.requires.arg = c.value_of.ensures ∙ arg-name _ c.requires.stands.few c.requires.here in
+    let inside : (vector_at c.args.frame.now c.value_of.result).base + (vector_at c.args.frame.now c.value_of.result).len ≤ 1536 = rw slot (name-inside c.requires.stands _ c.requires.here.slot) in
+    record { fits = omega (arith, inside, c.from.ensures, c.if-i-from.false) }
 
-pub offset_bounds-f-k-2 : goal.offset_bounds-f-k-2
-offset_bounds-f-k-2 c =
-    let r : c.value_of-k.result < 48 = omega (arith, c.value_of-k.ensures ∙ arg-name _ c.requires.stands.few c.requires.here, c.requires.stands.few, c.requires.here.slot) in
-    search rules
+pub returns-clause-finds : goal.returns-clause-finds
+unfolding Says Finds
+returns-clause-finds c ρ σ kind a s h =
+    let p = a-part a s.few h (λ e. c.if-head_of-eq0.false (c.head_of.ensures ∙ e)) in
+    let x : SFits w32 c.in_ok-subscript.subscript.value = search rules in
+    let y : SFits w32 (vector_at c.args.frame.now c.value_of.result).low = search rules in
+    let v : c.eval.result ≡ Some c.in_ok-subscript.subscript = grind arith in
+    let n : c.above.result ≡ Some c.in_ok-i.i = grind arith in
+    let slot = c.value_of.ensures ∙ arg-name a s.few h in
+    let gap = rw (to_z-of_z {w = w32} x, to_z-of_z {w = w32} y, slot) at c.above.ensures.apart in
+    let said = rw v at (c.eval.ensures p.exp p.here) in
+    let below : c.in_ok-i.i < (vector_at c.args.frame.now (arg_name a)).len = rw (← slot) (omega (arith, c.if-i-from.false, c.from.ensures)) in
+    (rw slot (finds-one s a h p _ said.0 (sym n ∙ gap) below), said.1 ∙ p.after)
 
-pub bounds-f-k-3 : goal.bounds-f-k-3
-bounds-f-k-3 c = omega (arith, c.value_of-k.ensures ∙ arg-name _ c.requires.stands.few c.requires.here, c.requires.stands.few, c.requires.here.slot)
-
-pub offset_bounds-f-k-3 : goal.offset_bounds-f-k-3
-offset_bounds-f-k-3 c =
-    let r : c.value_of-k.result < 48 = omega (arith, c.value_of-k.ensures ∙ arg-name _ c.requires.stands.few c.requires.here, c.requires.stands.few, c.requires.here.slot) in
-    search rules
+pub returns-clause-fits : goal.returns-clause-fits
+unfolding Fits
+returns-clause-fits c =
+    let slot : c.value_of.result ≡ arg_name c.requires.arg = c.value_of.ensures ∙ arg-name _ c.requires.stands.few c.requires.here in
+    let inside : (vector_at c.args.frame.now c.value_of.result).base + (vector_at c.args.frame.now c.value_of.result).len ≤ 1536 = rw slot (name-inside c.requires.stands _ c.requires.here.slot) in
+    omega (arith, inside, c.from.ensures, c.if-i-from.false)

@@ -9,9 +9,9 @@ use lib.ListN.{length}
 use mathlib.Core.List.{List}
 use Rattle.frames.proofs.arguments.Given as goal
 
-abbrev pub invariant-loop-f : goal.invariant-loop-f
-invariant-loop-f l =
-    (ρ : Env) (σ : Names Range) (ins outs : List (Arg ℕ)) → Stands l.f ρ σ → HereArgs l.tape l.at l.end (length σ) ins outs → Drawing ρ σ l.tape l.at l.end l.to ins outs l.initial.base l.initial.len l.i l.k l.base l.len
+abbrev pub invariant-loop-next : goal.invariant-loop-next
+invariant-loop-next l =
+    (ρ : Env) (σ : Names Range) (ins outs : List (Arg ℕ)) → Stands l.frame ρ σ → HereArgs l.tape l.at l.end (length σ) ins outs → Drawing ρ σ l.tape l.at l.end l.to ins outs l.initial.names l.next l.filled l.names
 
-abbrev pub decreases-loop-f : goal.decreases-loop-f
-decreases-loop-f l = l.end - l.i
+abbrev pub decreases-loop-next : goal.decreases-loop-next
+decreases-loop-next l = l.end - l.next

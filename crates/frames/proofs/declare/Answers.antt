@@ -1,118 +1,96 @@
-use Rattle.frames.specs.Fresh.{Declares, some-state, filled-full, name-place, declaring-begin, declaring-next, declaring-refused, declaring-full, declaring-on, declaring-end}
+use Rattle.std.proofs.Common.{◌≡◌, refl, sym, ◌∙◌, rules, arith, Ok, Err, ◌/◌, SFits, w32, to_z-of_z}
+use Rattle.frames.specs.Fresh.{Declares, some-state, name-place, declaring-begin, declaring-next, declaring-refused, declaring-full, declaring-on, declaring-end}
 use Rattle.frames.specs.Lists.{knows-itself}
 use Rattle.frames.specs.Ports.{here-sort}
 use Rattle.frames.specs.Stands.{shape-knows}
 use Rattle.tape.specs.Encoding.{decl_w}
 use Rattle.values.specs.Sizes.{Sizes}
-use borrow.Author.Rules.{rules}
-use mathlib.Core.Path.{refl, sym, ◌∙◌}
-use mir.Facts.{to_z-of_z}
-use mir.Syntax.{w32}
-use mir.Val.{SFits}
-use native.Mathlib.Omega.{arith}
 use Rattle.frames.proofs.declare.Goals as goal
 
-pub loop-place-init : goal.loop-place-init
-loop-place-init c ρ ds σ s K h f e = declaring-begin h e c.requires.to_bound.1 f
+pub loop-kind-init : goal.loop-kind-init
+loop-kind-init c ρ ds σ s K h f e = declaring-begin h e c.requires.from_bound.1 f
 
-pub among-requires : goal.among-requires
-among-requires c = c.requires.written_decls.here.listed.limit
-
-pub offset_bounds-tape-i : goal.offset_bounds-tape-i
-offset_bounds-tape-i c =
+pub offset_bounds-tape-next : goal.offset_bounds-tape-next
+offset_bounds-tape-next c =
     let p = c.requires.written_decls in
-    let d = c.loop-place.invariant _ _ _ (some-state c.args.wires) (knows-itself _) p.here p.filled refl in
-    let n = declaring-next d (sym c.among.ensures ∙ c.loop-place-test.true) in
+    let d = c.loop-kind.invariant _ _ _ (some-state c.args.from.wires) (knows-itself _) p.here p.filled refl in
+    let n = declaring-next d (sym c.among.ensures ∙ c.loop-kind-test.true) in
     let r = n.alone.short in
     let q = n.alone.within in
     let m = n.some in
     search rules
 
-pub bounds-tape-i : goal.bounds-tape-i
-bounds-tape-i c =
+pub bounds-tape-next : goal.bounds-tape-next
+bounds-tape-next c =
     let p = c.requires.written_decls in
-    let d = c.loop-place.invariant _ _ _ (some-state c.args.wires) (knows-itself _) p.here p.filled refl in
-    let n = declaring-next d (sym c.among.ensures ∙ c.loop-place-test.true) in
+    let d = c.loop-kind.invariant _ _ _ (some-state c.args.from.wires) (knows-itself _) p.here p.filled refl in
+    let n = declaring-next d (sym c.among.ensures ∙ c.loop-kind-test.true) in
     omega (arith, n.alone.within, n.alone.limit, n.some)
 
-pub measure-size-requires : goal.measure-size-requires
-measure-size-requires c =
+pub measure-requires : goal.measure-requires
+measure-requires c =
     let p = c.requires.written_decls in
-    let d = c.loop-place.invariant _ _ _ (some-state c.args.wires) (knows-itself _) p.here p.filled refl in
-    let n = declaring-next d (sym c.among.ensures ∙ c.loop-place-test.true) in
+    let d = c.loop-kind.invariant _ _ _ (some-state c.args.from.wires) (knows-itself _) p.here p.filled refl in
+    let n = declaring-next d (sym c.among.ensures ∙ c.loop-kind-test.true) in
     record { kind = _; value = _; sort = n.decl.sort; here = here-sort n.sound n.alone }
 
-pub returns-in-Wrong : goal.returns-in-Wrong
+pub returns-in_err-size : goal.returns-in_err-size
 unfolding Sizes Declares
-returns-in-Wrong c ρ ds σ s K h f e =
-    let d = c.loop-place.invariant ρ ds σ s K h f e in
-    let n = declaring-next d (sym c.among.ensures ∙ c.loop-place-test.true) in
-    declaring-refused d n (sym (shape-knows _ K n.sound.sort) ∙ rw c.in-Wrong.is at (c.measure-size.ensures _ _ _ (here-sort n.sound n.alone))) (rw c.value_of-place.ensures (name-place n))
+returns-in_err-size c ρ ds σ s K h f e =
+    let d = c.loop-kind.invariant ρ ds σ s K h f e in
+    let n = declaring-next d (sym c.among.ensures ∙ c.loop-kind-test.true) in
+    let m : c.measure.result ≡ Err c.in_err-size.field-0.0.reason = grind arith in
+    let p : c.in_err-size.field-0.0.place ≡ c.value_of.result / 32 = grind arith in
+    let q : c.from_residual.result ≡ Err c.in_err-size.field-0.0 = grind arith in
+    rw q (declaring-refused d n (sym (shape-knows _ K n.sound.sort) ∙ rw m at (c.measure.ensures _ _ _ (here-sort n.sound n.alone))) (p ∙ rw c.value_of.ensures (name-place n)))
 
-pub overflow_sub-next_wire : goal.overflow_sub-next_wire
-overflow_sub-next_wire c =
+pub overflow_sub-wires : goal.overflow_sub-wires
+overflow_sub-wires c =
     let p = c.requires.written_decls in
-    let d = c.loop-place.invariant _ _ _ (some-state c.args.wires) (knows-itself _) p.here p.filled refl in
+    let d = c.loop-kind.invariant _ _ _ (some-state c.args.from.wires) (knows-itself _) p.here p.filled refl in
     let w = d.wires in
     search rules
 
-pub returns-then-count-next_wire : goal.returns-then-count-next_wire
+pub returns-then-size-wires : goal.returns-then-size-wires
 unfolding Sizes Declares
-returns-then-count-next_wire c ρ ds σ s K h f e =
-    let d = c.loop-place.invariant ρ ds σ s K h f e in
-    let n = declaring-next d (sym c.among.ensures ∙ c.loop-place-test.true) in
-    let q = rw c.in-Wires.is at (c.measure-size.ensures _ _ _ (here-sort n.sound n.alone)) in
-    declaring-full d n (sym (shape-knows _ K n.sound.sort) ∙ q.0) (rw c.value_of-place.ensures (name-place n)) (omega (arith, d.wires, c.if-count-next_wire.true))
+returns-then-size-wires c ρ ds σ s K h f e =
+    let d = c.loop-kind.invariant ρ ds σ s K h f e in
+    let n = declaring-next d (sym c.among.ensures ∙ c.loop-kind-test.true) in
+    let m : c.measure.result ≡ Ok c.in_ok-size.size = grind arith in
+    let q = rw m at (c.measure.ensures _ _ _ (here-sort n.sound n.alone)) in
+    declaring-full d n (sym (shape-knows _ K n.sound.sort) ∙ q.0) (rw c.value_of.ensures (name-place n)) (omega (arith, d.wires, c.if-size-wires.true))
 
-pub keep_wire-requires : goal.keep_wire-requires
-keep_wire-requires c =
+pub overflow_cast-vector : goal.overflow_cast-vector
+overflow_cast-vector c =
     let p = c.requires.written_decls in
-    let d = c.loop-place.invariant _ _ _ (some-state c.args.wires) (knows-itself _) p.here p.filled refl in
-    ((filled-full d.filled).0, omega (arith, d.wires))
+    let d = c.loop-kind.invariant _ _ _ (some-state c.args.from.wires) (knows-itself _) p.here p.filled refl in
+    record { fits = omega (arith, d.wires) }
 
-pub keep_wire-requires-in-Wires : goal.keep_wire-requires-in-Wires
-keep_wire-requires-in-Wires c =
+pub overflow_add-filled : goal.overflow_add-filled
+overflow_add-filled c =
     let p = c.requires.written_decls in
-    let d = c.loop-place.invariant _ _ _ (some-state c.args.wires) (knows-itself _) p.here p.filled refl in
-    ((filled-full d.filled).1, omega (arith, d.wires, c.if-count-next_wire.false))
+    let d = c.loop-kind.invariant _ _ _ (some-state c.args.from.wires) (knows-itself _) p.here p.filled refl in
+    omega (arith, d.room, c.requires.from_bound.0, d.listed.short, d.listed.within)
 
-pub keep_value-requires : goal.keep_value-requires
-keep_value-requires c =
-    let p = c.requires.written_decls in
-    let d = c.loop-place.invariant _ _ _ (some-state c.args.wires) (knows-itself _) p.here p.filled refl in
-    (filled-full d.filled).2
-
-pub overflow_add-next_wire : goal.overflow_add-next_wire
-overflow_add-next_wire c =
-    let p = c.requires.written_decls in
-    let d = c.loop-place.invariant _ _ _ (some-state c.args.wires) (knows-itself _) p.here p.filled refl in
-    let w = d.wires in
-    let q = c.if-count-next_wire.false in
-    omega (arith, w, q)
-
-pub overflow_add-k : goal.overflow_add-k
-overflow_add-k c =
-    let p = c.requires.written_decls in
-    let d = c.loop-place.invariant _ _ _ (some-state c.args.wires) (knows-itself _) p.here p.filled refl in
-    omega (arith, d.room, c.requires.to_bound.0, d.listed.short, d.listed.within)
-
-pub loop-place-smaller : goal.loop-place-smaller
+pub loop-kind-smaller : goal.loop-kind-smaller
 unfolding Sizes decl_w
-loop-place-smaller c =
+loop-kind-smaller c =
     let p = c.requires.written_decls in
-    let d = c.loop-place.invariant _ _ _ (some-state c.args.wires) (knows-itself _) p.here p.filled refl in
-    let n = declaring-next d (sym c.among.ensures ∙ c.loop-place-test.true) in
-    let q = rw c.in-Wires.is at (c.measure-size.ensures _ _ _ (here-sort n.sound n.alone)) in
+    let d = c.loop-kind.invariant _ _ _ (some-state c.args.from.wires) (knows-itself _) p.here p.filled refl in
+    let n = declaring-next d (sym c.among.ensures ∙ c.loop-kind-test.true) in
+    let m : c.measure.result ≡ Ok c.in_ok-size.size = grind arith in
+    let q = rw m at (c.measure.ensures _ _ _ (here-sort n.sound n.alone)) in
     omega (arith, q.1, n.alone.within, n.some)
 
-pub loop-place-preserved : goal.loop-place-preserved
+pub loop-kind-preserved : goal.loop-kind-preserved
 unfolding Sizes decl_w
-loop-place-preserved c ρ ds σ s K h f e =
-    let d = c.loop-place.invariant ρ ds σ s K h f e in
-    let n = declaring-next d (sym c.among.ensures ∙ c.loop-place-test.true) in
-    let q = rw c.in-Wires.is at (c.measure-size.ensures _ _ _ (here-sort n.sound n.alone)) in
-    let x : SFits w32 c.in-Wires.lowest = search rules in
-    declaring-on d n (sym (shape-knows _ K n.sound.sort) ∙ q.0) (omega (arith, d.wires, c.if-count-next_wire.false)) q.1 c.keep_wire.ensures c.keep_wire-in-Wires.ensures (rw (to_z-of_z x) at c.keep_value.ensures) refl refl
+loop-kind-preserved c ρ ds σ s K h f e =
+    let d = c.loop-kind.invariant ρ ds σ s K h f e in
+    let n = declaring-next d (sym c.among.ensures ∙ c.loop-kind-test.true) in
+    let m : c.measure.result ≡ Ok c.in_ok-size.size = grind arith in
+    let q = rw m at (c.measure.ensures _ _ _ (here-sort n.sound n.alone)) in
+    let x : SFits w32 c.in_ok-size.size.low = search rules in
+    declaring-on d n (sym (shape-knows _ K n.sound.sort) ∙ q.0) (omega (arith, d.wires, c.if-size-wires.false)) q.1 (rw (to_z-of_z {w = w32} x) at c.keep.ensures) refl refl
 
 pub returns : goal.returns
-returns c ρ ds σ s K h f e = declaring-end (c.loop-place.invariant ρ ds σ s K h f e) (sym c.among.ensures ∙ c.loop-place-test.false)
+returns c ρ ds σ s K h f e = declaring-end (c.loop-kind.invariant ρ ds σ s K h f e) (sym c.among.ensures ∙ c.loop-kind-test.false)

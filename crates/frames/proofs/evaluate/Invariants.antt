@@ -11,9 +11,9 @@ use mathlib.Core.List.{List, map}
 use mathlib.Core.Path.{◌≡◌}
 use Rattle.frames.proofs.evaluate.Given as goal
 
-abbrev pub invariant-loop-v : goal.invariant-loop-v
-invariant-loop-v l =
-    (ρ : Env) (es : List (Exp ℕ)) → Knows l.values ρ → HereValues l.tape l.at l.end es → (found : List ℤ) × Going (eval ρ) value_w (Grouped 2) l.tape l.at l.end 0 2 es l.i l.k found × (l.into ≡ laid l.initial.into 0 (map (λ v. v) found))
+abbrev pub invariant-loop-next : goal.invariant-loop-next
+invariant-loop-next l =
+    (ρ : Env) (es : List (Exp ℕ)) → Knows l.values ρ → HereValues l.tape l.at l.end es → (found : List ℤ) × Going (eval ρ) value_w (Grouped 2) l.tape l.at l.end 0 2 es l.next l.filled found × (l.into ≡ laid l.initial.into 0 (map (λ v. v) found))
 
-abbrev pub decreases-loop-v : goal.decreases-loop-v
-decreases-loop-v l = l.end - l.i
+abbrev pub decreases-loop-next : goal.decreases-loop-next
+decreases-loop-next l = l.end - l.next

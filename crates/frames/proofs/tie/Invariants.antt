@@ -5,9 +5,9 @@ use Rattle.rules.specs.Values.{Env}
 use mathlib.Core.List.{List}
 use Rattle.frames.proofs.tie.Given as goal
 
-abbrev pub invariant-loop-size : goal.invariant-loop-size
-invariant-loop-size l =
-    (ρ : Env) (xs : List Port) → Knows l.values ρ → HerePorts l.tape l.at l.end xs → Offered l.to l.len xs → Tying ρ l.tape l.at l.end l.to xs l.len l.initial.low l.i l.k l.low
+abbrev pub invariant-loop-at : goal.invariant-loop-at
+invariant-loop-at l =
+    (ρ : Env) (xs : List Port) → Knows l.values ρ → HerePorts l.tape l.at l.end xs → Offered l.to l.initial.names xs → Tying ρ l.tape l.at l.end l.to xs l.initial.names l.next l.filled l.names
 
-abbrev pub decreases-loop-size : goal.decreases-loop-size
-decreases-loop-size l = l.end - l.i
+abbrev pub decreases-loop-at : goal.decreases-loop-at
+decreases-loop-at l = l.end - l.next

@@ -1,18 +1,17 @@
-use Rattle.frames.specs.Laid.{laid-length}
-use Rattle.gates.specs.Shows.{free, emit-stop, emit-on}
-use mathlib.Core.Path.{refl, sym, ◌∙◌}
-use native.Mathlib.Omega.{arith}
+use Rattle.std.proofs.Common.{arith}
+use Rattle.gates.specs.Shows.{emit-full, emit-input, emit-driven, emit-on}
+use Rattle.gates.proofs.emit.Goals.{then-out-inputs-via-then-out-inputs, then-out-inputs-via-else-out-inputs+then-marks-out}
 use Rattle.gates.proofs.emit.Goals as goal
 
-pub returns-then-no-gt0 : goal.returns-then-no-gt0
-returns-then-no-gt0 c = record { gives = (λ v h. emit-stop h _ _ c.requires.1 (rw (c.taken-twice.ensures, c.full-many.ensures, c.is_driven-driven.ensures, c.wide-out.ensures) at c.first-no.ensures) c.if-no-gt0.true); net_len_unchanged = refl }
+pub returns-then-counts-ge-GATES-clause-gives : goal.returns-then-counts-ge-GATES-clause-gives
+returns-then-counts-ge-GATES-clause-gives c v h = emit-full h _ _ (omega (arith, c.if-counts-ge-GATES.true))
 
-pub write-requires : goal.write-requires
-write-requires c = ((free c.full-many.ensures c.taken-twice.ensures c.first-no.ensures c.if-no-gt0.false).few, c.requires.0)
+pub returns-then-out-inputs-clause-gives : goal.returns-then-out-inputs-clause-gives
+returns-then-out-inputs-clause-gives c v h = elim c.then-out-inputs.branch [
+  | then-out-inputs-via-then-out-inputs w ↦ emit-input h _ _ c.requires.1 (omega (arith, c.if-counts-ge-GATES.false)) (omega (arith, w.if-out-inputs.true, c.from-out.ensures))
+  | then-out-inputs-via-else-out-inputs+then-marks-out w ↦ emit-driven h _ _ c.requires.1 (omega (arith, c.if-counts-ge-GATES.false)) (rw c.from-out.ensures at w.if-marks-out.true)
+]
 
-pub overflow_add-result : goal.overflow_add-result
-overflow_add-result c = let f = free c.full-many.ensures c.taken-twice.ensures c.first-no.ensures c.if-no-gt0.false in omega (arith, f.few)
-
-pub returns : goal.returns
-returns c =
-    let f = free c.full-many.ensures c.taken-twice.ensures c.first-no.ensures c.if-no-gt0.false in record { gives = (λ v h. emit-on h _ _ f.few c.requires.1 (rw c.wide-out.ensures at f.past) (rw c.wide-out.ensures at (sym c.is_driven-driven.ensures ∙ f.none)) c.write.ensures (rw c.wide-out.ensures at c.drive.ensures)); net_len_unchanged = rw c.write.ensures (laid-length _ _ _) }
+pub returns-clause-gives : goal.returns-clause-gives
+returns-clause-gives c v h =
+    emit-on h _ _ (omega (arith, c.if-counts-ge-GATES.false)) c.requires.1 (omega (arith, c.if-out-inputs.false, c.from-out.ensures)) (rw c.from-out.ensures at c.if-marks-out.false) c.write.ensures (rw c.from-out.ensures)

@@ -1,28 +1,16 @@
-use mathlib.Core.Path.{sym, ◌∙◌}
-use native.Mathlib.Omega.{arith}
-use Rattle.sweep.proofs.Laws.Counts.{given-more, given-stop, given-end}
+use Rattle.std.specs.Prelude.{eqb}
+use Rattle.std.proofs.Common.{ap, ◌∙◌, rules}
+use Rattle.std.specs.Iterator.Adapters.{take_while_callee, take_while_done}
+use Rattle.std.proofs.lemmas.Iterator.{YieldsList-from_slice}
+use Rattle.std.proofs.lemmas.Iterator.Search.{YieldsList-from_take_while}
+use Rattle.std.proofs.lemmas.Iterator.Consumers.{count_from_yields_List, YieldsList-from_filter}
+use Rattle.tape.specs.Layout.{kind_of}
+use Rattle.tape.specs.Kinds.{code}
+use Rattle.sweep.specs.Sweep.{in_call}
+use Rattle.sweep.proofs.Laws.Counts.{given-is}
 use Rattle.headings.proofs.arguments_given.Goals as goal
-
-pub loop-i-init : goal.loop-i-init
-loop-i-init c = (omega arith, omega arith)
-
-pub returns-then-not-in_call : goal.returns-then-not-in_call
-returns-then-not-in_call c =
-    let l = c.loop-i in
-    let z = given-stop c.args.tape.now c.args.end c.args.wanted l.i c.requires _ c.kind_of-kind.ensures (sym c.if-not-in_call.true ∙ c.in_call.ensures) c.loop-i-test.true in
-    omega arith
-
-pub overflow_add-n : goal.overflow_add-n
-overflow_add-n c = record { fits = omega (arith, c.one_if-n.ensures.1) }
-
-pub loop-i-preserved : goal.loop-i-preserved
-loop-i-preserved c =
-    let l = c.loop-i in
-    let z = given-more c.args.tape.now c.args.end c.args.wanted l.i c.requires _ _ c.kind_of-kind.ensures (sym c.if-not-in_call.false ∙ c.in_call.ensures) c.one_if-n.ensures.0 c.loop-i-test.true in
-    (omega (arith, c.one_if-n.ensures.1), omega arith)
 
 pub returns : goal.returns
 returns c =
-    let l = c.loop-i in
-    let z = given-end c.args.tape.now c.args.end c.args.wanted l.i c.requires c.loop-i-test.false in
-    omega arith
+    count_from_yields_List _ c.count.result c.count.ensures.ran (YieldsList-from_filter _ (λ w. eqb (kind_of w) (code c.args.wanted)) (YieldsList-from_take_while _ (λ w. in_call (kind_of w)) (YieldsList-from_slice c.args.words.now (cc)) (ap take_while_callee c.filter.ensures.source ∙ c.take_while.ensures.closure) (ap take_while_done c.filter.ensures.source ∙ c.take_while.ensures.done) (λ x b q h. search rules)) c.filter.ensures.closure (λ x b q h. search rules))
+    ∙ given-is (code c.args.wanted) c.args.words.now

@@ -1,26 +1,16 @@
-use Prim.Native.Nat.{◌+◌}
-use mathlib.Core.Path.{refl, sym, ap, ◌∙◌}
-use native.Mathlib.Omega.{arith}
-use lib.ListN.{length, take, drop, length-set}
-use Rattle.tape.specs.Written.{put}
-use Rattle.sweep.specs.Sweep.{firsts}
+use Rattle.std.proofs.Common.{sym, ◌∙◌, arith}
 use Rattle.sweep.proofs.Laws.Gather.{firsts-skip, firsts-pass, firsts-keep, firsts-end}
+use Rattle.headings.proofs.gather_firsts.Goals.{then-is_heading, then-is, else-is, else-is_heading}
 use Rattle.headings.proofs.gather_firsts.Goals as goal
 
-pub loop-i-init : goal.loop-i-init
-loop-i-init c = (omega arith, omega arith, refl, refl)
-
-pub loop-i-preserved-then-not-is_heading : goal.loop-i-preserved-then-not-is_heading
-loop-i-preserved-then-not-is_heading c = (omega arith, omega arith, c.loop-i.invariant.2, firsts-skip c.args.tape.now c.args.end c.loop-i.i c.requires c.loop-i-test.true _ c.is_heading.ensures c.if-not-is_heading.true _ _ _ ∙ c.loop-i.invariant.3)
-
-pub loop-i-preserved-then-kind_of-ne-BLOCK : goal.loop-i-preserved-then-kind_of-ne-BLOCK
-loop-i-preserved-then-kind_of-ne-BLOCK c = (omega (arith, c.loop-i.invariant.0), omega (arith, c.loop-i.invariant.1), c.loop-i.invariant.2, firsts-pass c.args.tape.now c.args.end c.loop-i.i c.requires c.loop-i-test.true _ c.is_heading.ensures c.if-not-is_heading.false _ c.kind_of.ensures c.if-kind_of-ne-BLOCK.true _ _ _ ∙ c.loop-i.invariant.3)
-
-pub loop-i-preserved : goal.loop-i-preserved
-loop-i-preserved c = (omega (arith, c.loop-i.invariant.0), omega (arith, c.loop-i.invariant.1), ap length c.keep_place.ensures ∙ simp length-set c.loop-i.invariant.2, ap (λ h. put h (c.loop-i.b + 1) (firsts (c.loop-i.n + 1) (drop (c.loop-i.i + 1) (take c.args.end c.args.tape.now)))) c.keep_place.ensures ∙ firsts-keep c.args.tape.now c.args.end c.loop-i.i c.requires c.loop-i-test.true _ c.is_heading.ensures c.if-not-is_heading.false _ c.kind_of.ensures c.if-kind_of-ne-BLOCK.false _ _ _ ∙ c.loop-i.invariant.3)
-
-pub shape_of-places : goal.shape_of-places
-shape_of-places c = c.loop-i.invariant.2
+pub loop-word-preserved : goal.loop-word-preserved
+loop-word-preserved c = elim c.if-is_heading.branch [
+  | then-is_heading w ↦ elim w.if-is.branch [
+    | then-is v ↦ let z = firsts-keep c.args.tape.now c.loop-word.word-index c.loop-word-test.true _ c.is_heading.ensures w.if-is_heading.true _ w.is.ensures v.if-is.true c.loop-word.places c.loop-word.blocks c.loop-word.next in record { few = omega arith; fewer = omega arith; ahead = cc }
+    | else-is v ↦ let z = firsts-pass c.args.tape.now c.loop-word.word-index c.loop-word-test.true _ c.is_heading.ensures w.if-is_heading.true _ w.is.ensures v.if-is.false c.loop-word.places c.loop-word.blocks c.loop-word.next in record { few = omega arith; fewer = omega arith; ahead = cc }
+  ]
+  | else-is_heading w ↦ let z = firsts-skip c.args.tape.now c.loop-word.word-index c.loop-word-test.true _ c.is_heading.ensures w.if-is_heading.false c.loop-word.places c.loop-word.blocks c.loop-word.next in record { few = omega arith; fewer = omega arith; ahead = cc }
+]
 
 pub returns : goal.returns
-returns c = sym (firsts-end c.args.tape.now c.args.end c.loop-i.i c.loop-i-test.false _ _ _) ∙ c.loop-i.invariant.3
+returns c = sym (firsts-end c.args.tape.now c.loop-word.word-index c.loop-word-test.false _ _ _) ∙ c.loop-word.invariant.ahead

@@ -1,12 +1,11 @@
-use Prim.Native.Nat.{◌+◌, ◌-◌, ◌≤◌}
-use mathlib.Core.Path.{◌≡◌}
-use lib.ListN.{length, take, drop}
+use Rattle.std.proofs.Common.{◌≡◌, ◌+◌, ◌≤◌, drop}
 use Rattle.tape.specs.Written.{put}
 use Rattle.sweep.specs.Sweep.{firsts}
 use Rattle.headings.proofs.gather_firsts.Given as goal
 
-abbrev pub invariant-loop-i : goal.invariant-loop-i
-invariant-loop-i l = (l.n ≤ 4 + l.i) × (l.b ≤ l.i) × (length l.places ≡ length l.initial.places) × (put l.places l.b (firsts l.n (drop l.i (take l.end l.tape))) ≡ put l.initial.places 0 (firsts 4 (take l.end l.tape)))
-
-abbrev pub decreases-loop-i : goal.decreases-loop-i
-decreases-loop-i l = l.end - l.i
+abbrev pub invariant-loop-word : goal.invariant-loop-word
+invariant-loop-word l = record {
+  few : l.next ≤ 4 + l.word-index;
+  fewer : l.blocks ≤ l.word-index;
+  ahead : put l.places l.blocks (firsts l.next (drop l.word-index l.tape)) ≡ put l.initial.places 0 (firsts 4 l.tape);
+}

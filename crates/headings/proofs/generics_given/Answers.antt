@@ -1,33 +1,22 @@
-use native.Mathlib.Omega.{arith}
-use Rattle.sweep.proofs.Laws.Counts.{generics-stop, generics-inside, generics-more, generics-end}
+use Rattle.std.specs.Prelude.{◌≡◌, ltb, get_or}
+use Rattle.std.specs.Int.{from_bool}
+use Rattle.std.proofs.Common.{arith, refl, ◌∙◌}
+use Rattle.tape.specs.Layout.{head_in}
+use Rattle.sweep.proofs.Laws.Counts.{at-most-one, generics-stop, generics-inside, generics-more, generics-end}
+use Rattle.headings.proofs.generics_given.Goals.{then-inside-gt0, else-inside-gt0}
 use Rattle.headings.proofs.generics_given.Goals as goal
 
-pub loop-i-init : goal.loop-i-init
-loop-i-init c = (omega arith, omega arith)
+pub returns-then-code-kind_of : goal.returns-then-code-kind_of
+returns-then-code-kind_of c = let z = generics-stop c.args.words.now c.loop-word.word-index c.loop-word.inside c.loop-word-test.true (omega (arith, c.code.ensures.0)) in omega arith
 
-pub returns-then-kind-gt-BRACKET : goal.returns-then-kind-gt-BRACKET
-returns-then-kind-gt-BRACKET c =
-    let l = c.loop-i in
-    let z = generics-stop c.args.tape.now c.args.end l.i l.inside c.requires _ c.kind_of-kind.ensures c.if-kind-gt-BRACKET.true c.loop-i-test.true in
-    omega arith
-
-pub loop-i-preserved-then-inside-gt0 : goal.loop-i-preserved-then-inside-gt0
-loop-i-preserved-then-inside-gt0 c =
-    let l = c.loop-i in
-    let z = generics-inside c.args.tape.now c.args.end l.i l.inside c.requires _ c.kind_of-kind.ensures c.if-kind-gt-BRACKET.false c.if-inside-gt0.true c.loop-i-test.true in
-    (omega arith, omega arith)
-
-pub overflow_add-n : goal.overflow_add-n
-overflow_add-n c = record { fits = omega (arith, c.begins-n.ensures.1) }
-
-pub loop-i-preserved : goal.loop-i-preserved
-loop-i-preserved c =
-    let l = c.loop-i in
-    let z = generics-more c.args.tape.now c.args.end l.i l.inside c.requires _ _ _ c.kind_of-kind.ensures c.if-kind-gt-BRACKET.false c.if-inside-gt0.false c.begins-n.ensures.0 c.words_inside-inside.ensures c.loop-i-test.true in
-    (omega (arith, c.begins-n.ensures.1), omega arith)
+pub loop-word-preserved : goal.loop-word-preserved
+loop-word-preserved c = elim c.if-inside-gt0.branch [
+  | then-inside-gt0 w ↦ let z = generics-inside c.args.words.now c.loop-word.word-index c.loop-word.inside c.loop-word-test.true (omega (arith, c.code.ensures.0)) (omega arith) in record { few = omega arith; ahead = cc }
+  | else-inside-gt0 w ↦
+      let n : w.from-given.result ≡ from_bool (ltb (head_in (get_or c.args.words.now c.loop-word.word-index 0)) 2) = w.from-given.ensures ∙ rw w.head_of.ensures refl in
+      let z = generics-more c.args.words.now c.loop-word.word-index c.loop-word.inside c.loop-word-test.true w.from-given.result w.words_inside-inside.result (omega (arith, c.code.ensures.0)) (omega arith) n w.words_inside-inside.ensures in
+      record { few = omega (arith, at-most-one (ltb (head_in (get_or c.args.words.now c.loop-word.word-index 0)) 2)); ahead = rw (w.given-is, w.inside-is) (omega arith) }
+]
 
 pub returns : goal.returns
-returns c =
-    let l = c.loop-i in
-    let z = generics-end c.args.tape.now c.args.end l.i l.inside c.requires c.loop-i-test.false in
-    omega arith
+returns c = let z = generics-end c.args.words.now c.loop-word.word-index c.loop-word.inside c.loop-word-test.false in omega arith

@@ -1,11 +1,9 @@
-use Prim.Native.Nat.{◌-◌, ◌≤◌, ◌+◌}
-use mathlib.Core.Path.{◌≡◌}
-use lib.ListN.{drop, take}
+use Rattle.std.proofs.Common.{◌≡◌, ◌+◌, ◌≤◌, drop}
 use Rattle.sweep.specs.Sweep.{generics_given}
 use Rattle.headings.proofs.generics_given.Given as goal
 
-abbrev pub invariant-loop-i : goal.invariant-loop-i
-invariant-loop-i l = (l.n ≤ l.i) × (generics_given 0 (drop l.from (take l.end l.tape)) ≡ l.n + generics_given l.inside (drop l.i (take l.end l.tape)))
-
-abbrev pub decreases-loop-i : goal.decreases-loop-i
-decreases-loop-i l = l.end - l.i
+abbrev pub invariant-loop-word : goal.invariant-loop-word
+invariant-loop-word l = record {
+  few : l.given ≤ l.word-index;
+  ahead : l.given + generics_given l.inside (drop l.word-index l.words) ≡ generics_given 0 l.words;
+}

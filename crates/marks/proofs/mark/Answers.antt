@@ -1,26 +1,21 @@
-use Rattle.marks.specs.Laws.One.{past}
-use Rattle.marks.specs.Marks.{mark_at}
-use Rattle.rules.specs.Readers.{give, marked}
+use Rattle.std.proofs.Common.{◌∙◌}
+use borrow.Author.Tests.{eq-eqb}
 use Rattle.rules.specs.Text.{pick}
-use borrow.Author.Tests.{eq-eqb, ne_eqb}
+use Rattle.rules.specs.Readers.{give, marked}
+use Rattle.marks.specs.Marks.{mark_at}
+use Rattle.marks.specs.Laws.One.{past}
+use Rattle.marks.proofs.Others.{not_a_mark, another_mark}
 use Rattle.marks.proofs.mark.Goals as goal
 
-pub returns-in-Bad : goal.returns-in-Bad
-unfolding mark_at marked
-returns-in-Bad c = record { tells = rw (← c.word_at-w.ensures.value, c.in-Bad.is); past = tt }
+pub returns-in_default : goal.returns-in_default
+returns-in_default c = record { tells = not_a_mark _ _ _ c.word_at-word.ensures.value c.unwanted.ensures c.in_default.not-Mark; past = tt }
 
-pub returns-in-Name : goal.returns-in-Name
-unfolding mark_at marked
-returns-in-Name c = record { tells = rw (← c.word_at-w.ensures.value, c.in-Name.is); past = tt }
+pub returns-then-b-code-clause-tells : goal.returns-then-b-code-clause-tells
+returns-then-b-code-clause-tells c = another_mark _ _ _ c.in-Mark.ensures.value c.unwanted-then-b-code.ensures (rw c.code.ensures at c.if-b-code.true)
 
-pub returns-in-Number : goal.returns-in-Number
-unfolding mark_at marked
-returns-in-Number c = record { tells = rw (← c.word_at-w.ensures.value, c.in-Number.is); past = tt }
-
-pub returns-then-b-code : goal.returns-then-b-code
+pub returns-clause-tells : goal.returns-clause-tells
 unfolding mark_at marked give pick
-returns-then-b-code c = record { tells = rw (← c.word_at-w.ensures.value, c.in-Mark.is, eq-eqb _ _ c.if-b-code.true); past = past _ _ _ _ _ _ c.if-b-code.true c.requires (rw c.in-Mark.is at c.word_at-w.ensures.onward) }
+returns-clause-tells c = rw (← c.in-Mark.ensures.value, eq-eqb _ _ (c.if-b-code.false ∙ c.code.ensures))
 
-pub returns-else-b-code : goal.returns-else-b-code
-unfolding mark_at marked pick
-returns-else-b-code c = record { tells = rw (← c.word_at-w.ensures.value, c.in-Mark.is, ne_eqb _ _ c.if-b-code.false); past = tt }
+pub returns-clause-past : goal.returns-clause-past
+returns-clause-past c = past _ _ _ _ _ _ (c.if-b-code.false ∙ c.code.ensures) c.requires c.in-Mark.ensures.onward

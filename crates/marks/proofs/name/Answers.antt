@@ -1,18 +1,10 @@
 use Rattle.rules.specs.Readers.{a_name, named}
+use Rattle.marks.proofs.Others.{not_a_name}
 use Rattle.marks.proofs.name.Goals as goal
 
-pub returns-in-Bad : goal.returns-in-Bad
-unfolding a_name named
-returns-in-Bad c = record { tells = rw (← c.word_at-w.ensures.value, c.in-Bad.is); named = tt }
+pub returns-in_default : goal.returns-in_default
+returns-in_default c = record { tells = not_a_name _ _ c.word_at-word.ensures.value c.unwanted.ensures c.in_default.not-Name; named = tt }
 
-pub returns-in-Name : goal.returns-in-Name
+pub returns-clause-tells : goal.returns-clause-tells
 unfolding a_name named
-returns-in-Name c = record { tells = rw (← c.word_at-w.ensures.value, c.in-Name.is); named = rw c.in-Name.is at c.word_at-w.ensures.onward }
-
-pub returns-in-Number : goal.returns-in-Number
-unfolding a_name named
-returns-in-Number c = record { tells = rw (← c.word_at-w.ensures.value, c.in-Number.is); named = tt }
-
-pub returns-in-Mark : goal.returns-in-Mark
-unfolding a_name named
-returns-in-Mark c = record { tells = rw (← c.word_at-w.ensures.value, c.in-Mark.is); named = tt }
+returns-clause-tells c = rw (← c.in-Name.ensures.value)

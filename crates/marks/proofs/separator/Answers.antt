@@ -1,32 +1,30 @@
-use Rattle.marks.specs.Laws.One.{past}
-use Rattle.marks.specs.Marks.{dividing}
-use Rattle.rules.specs.Text.{pick}
+use Rattle.std.proofs.Common.{arith, ◌∙◌}
 use borrow.Author.Tests.{eq-eqb, ne_eqb}
-use native.Mathlib.Omega.{arith}
+use Rattle.rules.specs.Text.{pick}
+use Rattle.marks.specs.Marks.{dividing}
+use Rattle.marks.specs.Laws.One.{past}
+use Rattle.marks.proofs.Others.{undivided}
 use Rattle.marks.proofs.separator.Goals as goal
 
-pub returns-in-Bad : goal.returns-in-Bad
-unfolding dividing
-returns-in-Bad c = record { value = rw (← c.word_at-w.ensures.value, c.in-Bad.is); parted = tt }
+pub returns-in_default : goal.returns-in_default
+returns-in_default c = record { value = undivided _ _ _ c.word_at-word.ensures.value c.unwanted.ensures c.in_default.not-Mark; parted = tt }
 
-pub returns-in-Name : goal.returns-in-Name
-unfolding dividing
-returns-in-Name c = record { value = rw (← c.word_at-w.ensures.value, c.in-Name.is); parted = tt }
-
-pub returns-in-Number : goal.returns-in-Number
-unfolding dividing
-returns-in-Number c = record { value = rw (← c.word_at-w.ensures.value, c.in-Number.is); parted = tt }
-
-pub returns-then-b-sep : goal.returns-then-b-sep
+pub returns-then-b-code-clause-value : goal.returns-then-b-code-clause-value
 unfolding dividing pick
-returns-then-b-sep c = record { value = rw (← c.word_at-w.ensures.value, c.in-Mark.is, eq-eqb _ _ c.if-b-sep.true); parted = past _ _ _ _ _ _ c.if-b-sep.true c.requires (rw c.in-Mark.is at c.word_at-w.ensures.onward) }
+returns-then-b-code-clause-value c = rw (← c.in-Mark.ensures.value, eq-eqb _ _ (c.if-b-code.true ∙ c.code.ensures))
 
-pub returns-then-b-close : goal.returns-then-b-close
-unfolding dividing pick
-returns-then-b-close c =
-    let o = past _ _ _ _ _ _ c.if-b-close.true c.requires (rw c.in-Mark.is at c.word_at-w.ensures.onward) in
-    record { value = rw (← c.word_at-w.ensures.value, c.in-Mark.is, ne_eqb _ _ c.if-b-sep.false, eq-eqb _ _ c.if-b-close.true); parted = omega arith }
+pub returns-then-b-code-clause-parted : goal.returns-then-b-code-clause-parted
+returns-then-b-code-clause-parted c = past _ _ _ _ _ _ (c.if-b-code.true ∙ c.code.ensures) c.requires c.in-Mark.ensures.onward
 
-pub returns-else-b-close : goal.returns-else-b-close
+pub returns-then-b-code-2-clause-value : goal.returns-then-b-code-2-clause-value
 unfolding dividing pick
-returns-else-b-close c = record { value = rw (← c.word_at-w.ensures.value, c.in-Mark.is, ne_eqb _ _ c.if-b-sep.false, ne_eqb _ _ c.if-b-close.false); parted = tt }
+returns-then-b-code-2-clause-value c = rw (← c.in-Mark.ensures.value, ne_eqb _ _ (rw c.code.ensures at c.if-b-code.false), eq-eqb _ _ (c.if-b-code-2.true ∙ c.code-2.ensures))
+
+pub returns-then-b-code-2-clause-parted : goal.returns-then-b-code-2-clause-parted
+returns-then-b-code-2-clause-parted c =
+    let o = past _ _ _ _ _ _ (c.if-b-code-2.true ∙ c.code-2.ensures) c.requires c.in-Mark.ensures.onward in
+    omega arith
+
+pub returns-clause-value : goal.returns-clause-value
+unfolding dividing pick
+returns-clause-value c = rw (← c.in-Mark.ensures.value, ne_eqb _ _ (rw c.code.ensures at c.if-b-code.false), ne_eqb _ _ (rw c.code-2.ensures at c.if-b-code-2.false), c.unwanted-2.ensures)

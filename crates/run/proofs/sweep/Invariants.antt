@@ -1,4 +1,4 @@
-use Prim.Native.Nat.{ℕ, ◌≤◌, ◌-◌}
+use Prim.Native.Nat.{ℕ}
 use Rattle.rules.specs.Run.{Inputs}
 use Rattle.run.specs.Going.{Going, Sweep}
 use lib.ListN.{length}
@@ -12,7 +12,4 @@ abbrev pub Far : List ℕ → List ℕ → ℕ → Bool → List ℕ → Type 0
 Far w v₀ n c v = (ins : List ℕ) → Inputs w ins → Going w ins v₀ → Going w ins v × Sweep w v₀ n c v
 
 abbrev pub invariant-loop-i : goal.invariant-loop-i
-invariant-loop-i l = (length l.values ≡ length l.initial.values) × (l.i ≤ l.gates) × Far l.net l.initial.values l.i l.changed l.values
-
-abbrev pub decreases-loop-i : goal.decreases-loop-i
-decreases-loop-i l = l.gates - l.i
+invariant-loop-i l = (length l.values ≡ length l.initial.values) × Far l.net l.initial.values l.i l.changed l.values

@@ -1,28 +1,15 @@
-use mathlib.Core.Path.{sym, ◌∙◌}
-use native.Mathlib.Omega.{arith}
+use Rattle.std.specs.Prelude.{◌≡◌, true, false, eqb}
+use Rattle.std.proofs.Common.{rules}
+use Rattle.std.proofs.lemmas.Iterator.{IsFirst-from_position, YieldsList-from_slice}
+use lib.Pointwise.{pointwise}
+use borrow.Author.Tests.{tests}
 use Rattle.sweep.specs.Spelling.{letters_of}
-use Rattle.sweep.proofs.Laws.Leaves.{from_start, found_here, not-here, found_none}
+use Rattle.sweep.proofs.Laws.Leaves.{finds-first}
 use Rattle.spellings.proofs.find.Goals as goal
-
-pub loop-i-init : goal.loop-i-init
-loop-i-init c =
-    let a = c.args in
-    (c.least-n.ensures, from_start (letters_of a.text.now) _ a.words.now a.count)
-
-pub returns-then-namesakes : goal.returns-then-namesakes
-returns-then-namesakes c =
-    let a = c.args in
-    let l = c.loop-i in
-    found_here (letters_of a.text.now) _ a.words.now a.count l.i (omega (arith, c.loop-i-test.true)) l.invariant.1 (sym c.namesakes.ensures ∙ c.if-namesakes.true)
-
-pub loop-i-preserved : goal.loop-i-preserved
-loop-i-preserved c =
-    let a = c.args in
-    let l = c.loop-i in
-    (l.invariant.0, not-here (letters_of a.text.now) _ a.words.now a.count l.i (omega (arith, c.loop-i-test.true)) l.invariant.1 (sym c.namesakes.ensures ∙ c.if-namesakes.false))
 
 pub returns : goal.returns
 returns c =
-    let a = c.args in
-    let l = c.loop-i in
-    found_none (letters_of a.text.now) _ a.words.now a.count l.i (omega (arith, c.loop-i-test.false)) l.invariant.1
+    finds-first (letters_of c.args.text.now) c.args.name.now c.args.words.now c.position.result (
+    IsFirst-from_position _ _ c.position.result (λ w. pointwise eqb c.args.name.now (letters_of c.args.text.now w) ≡ true) (λ w. pointwise eqb c.args.name.now (letters_of c.args.text.now w) ≡ false)
+    c.position.ensures.ran (YieldsList-from_slice c.args.words.now cc) (λ x q k. search (rules, tests)) (λ x q k. search (rules, tests))
+    )

@@ -1,11 +1,12 @@
-use Rattle.sweep.proofs.Laws.Steps.{taken-gate, taken-block, not_taken}
+use Rattle.std.specs.Prelude.{map}
+use Rattle.std.proofs.Common.{◌∙◌, sym}
+use Rattle.rules.specs.Primitives.{primitive_names}
+use Rattle.sweep.specs.Spelling.{letters_of}
+use Rattle.sweep.proofs.Laws.Steps.{taken-first, taken-second}
 use Rattle.spellings.proofs.taken.Goals as goal
 
-pub returns-then-primitive-lt10 : goal.returns-then-primitive-lt10
-returns-then-primitive-lt10 c = taken-gate c.args.text.now c.args.titles.now c.args.before c.args.word _ c.primitive.ensures c.if-primitive-lt10.true
+pub returns-then-is_some : goal.returns-then-is_some
+returns-then-is_some c = c.if-is_some.true ∙ taken-first c.args.name.now primitive_names (map (letters_of c.args.text.now) c.args.before.now) c.primitive.result c.primitive.ensures (sym c.is_some.ensures ∙ c.if-is_some.true)
 
-pub returns-in-At : goal.returns-in-At
-returns-in-At c = taken-block c.args.text.now c.args.titles.now c.args.before c.args.word _ c.primitive.ensures c.if-primitive-lt10.false _ c.find-found.ensures c.in-At.is
-
-pub returns-in_default : goal.returns-in_default
-returns-in_default c = not_taken c.args.text.now c.args.titles.now c.args.before c.args.word _ c.primitive.ensures c.if-primitive-lt10.false _ c.find-found.ensures c.in_default.is
+pub returns-else-is_some : goal.returns-else-is_some
+returns-else-is_some c = c.is_some-else-is_some.ensures ∙ taken-second c.args.name.now primitive_names (map (letters_of c.args.text.now) c.args.before.now) c.primitive.result c.primitive.ensures (sym c.is_some.ensures ∙ c.if-is_some.false) c.find.result c.find.ensures

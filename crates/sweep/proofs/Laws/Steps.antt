@@ -1,22 +1,18 @@
 -- Laws of one word: what finding its name gives. Assumes nothing.
-use Rattle.std.specs.Prelude.{◌≡◌, refl, Bool, true, false, ◌||◌, List, [], ◌∷◌, ◌++◌, map, ℕ, zero, suc, ◌+◌, ◌<◌, ◌≤◌, min, eqb, ltb, length, get_or, take}
-use Rattle.std.proofs.Common.{sym, ap, ◌∙◌, subst, arith, length-take, length-append, get_or-take, take-take, take_all}
-use Rattle.std.proofs.Math.Path.{subst⁻¹}
-use Rattle.std.proofs.Math.Decide.{dec_le}
+use Rattle.std.specs.Prelude.{◌≡◌, refl, Bool, true, false, ◌||◌, List, [], ◌∷◌, ◌++◌, map, ℕ, zero, suc, ◌+◌, ◌<◌, ◌≤◌, eqb, ltb, length, get_or, Option, Some, None, IfOk}
+use Rattle.std.specs.Option.{is_some, ok_or}
+use Rattle.std.proofs.Common.{sym, ap, ◌∙◌, arith, length-append}
 use Rattle.std.proofs.lemmas.List.{length-map}
 use borrow.Author.Tests.{lt-ltb, le-ltb, ltb-true, ltb-false}
 use Rattle.rules.specs.Text.{pick, same, index_of, is_in}
 use Rattle.rules.specs.Primitives.{primitive_names}
 use Rattle.rules.specs.Outcome.{Out, ok, refuse, ◌>>=◌, at, need}
 use Rattle.rules.specs.Names.{is_index, spellings, find, role_at, once}
+use Rattle.rules.specs.Reasons.{number}
+use Rattle.rules.specs.declared.Refusal.{Refusal}
 use Rattle.tape.specs.Layout.{head_in}
-use Rattle.sweep.specs.declared.Found.{Found}
-use Rattle.sweep.specs.declared.Found.TheVariants.{At, Nothing}
 use Rattle.sweep.specs.Spelling.{place_of, letters_of, name_of, role_in, scope_in}
-use Rattle.sweep.specs.Sweep.{standing, sort_fits, shape_fits, name_step, index_step, argument_step, callee_in, call_step, counts_fit, heading_of, block_step, declare_step, after, State, Finds, Tells, Small}
-use Rattle.sweep.specs.declared.Heading.{Heading}
-use Rattle.sweep.specs.declared.Named.{Named}
-use Rattle.sweep.specs.declared.Named.TheVariants.{Done, No}
+use Rattle.sweep.specs.Sweep.{standing, sort_fits, shape_fits, name_step, index_step, argument_step, callee_in, call_step, counts_fit, heading_of, block_step, declare_step, after, State, Finds, Answers}
 
 pub spelled-alike : (s ws : List ℕ) → spellings (scope_in s ws) ≡ map (letters_of s) ws
 spelled-alike s [] = refl
@@ -27,114 +23,87 @@ role-there s [] k h = absurd (omega arith)
 role-there s (w ∷ ws) zero h = refl
 role-there s (w ∷ ws) (suc k) h = role-there s ws k (omega arith)
 
--- the word w was looked for among the first n of the declared words `scope`
-module _ (s scope : List ℕ) (n w : ℕ) where
-  abbrev Seen : Found → Type 0
-  Seen r = Finds (letters_of s w) (map (letters_of s) (take n scope)) r
+-- a search says whether a spelling is there
+pub found-in : (l : List ℕ) (vs : List (List ℕ)) (r : Option ℕ) → Finds l vs r → is_some r ≡ is_in l vs
+found-in l vs (Some k) h = rw (← h.0) (sym (lt-ltb _ _ h.1))
+found-in l vs None h = sym (le-ltb _ _ h)
 
-  pub seen_at : (r : Found) {k : ℕ} → Seen r → r ≡ At k → Seen (At k)
-  seen_at r h e = subst (λ r. Seen r) e h
-
-  pub seen-not : (r : Found) → Seen r → r ≡ Nothing → Seen Nothing
-  seen-not r h e = subst (λ r. Seen r) e h
-
-  pub below-count : {k : ℕ} → Seen (At k) → k < length (take n scope)
-  below-count h = omega (arith, h.1, length-map (take n scope) (letters_of s))
-
-  pub below_all : {k : ℕ} → Seen (At k) → k < length scope
-  below_all h = omega (arith, below-count h, length-take n scope)
-
-  pub find_at : {k : ℕ} → Seen (At k) → find (scope_in s (take n scope)) (name_of s w) ≡ ok k
+-- the word w was looked for among the declared words
+module _ (s declared : List ℕ) (w : ℕ) where
+  pub find-answers : (r : Option ℕ) (e : Refusal) → Finds (letters_of s w) (map (letters_of s) declared) r → number e.reason ≡ 7 → e.place ≡ place_of w → Answers (find (scope_in s declared) (name_of s w)) (ok_or r e)
   unfolding find ◌>>=◌ at need
-  find_at {k} h = rw (spelled-alike s (take n scope), ← h.0, lt-ltb _ _ h.1)
+  find-answers (Some k) e h n p = rw (spelled-alike s declared, ← h.0, lt-ltb _ _ h.1)
+  find-answers None e h n p = rw (spelled-alike s declared, le-ltb _ _ h, n, p)
 
-  pub find-not : Seen Nothing → find (scope_in s (take n scope)) (name_of s w) ≡ refuse 7 (place_of w)
-  unfolding find ◌>>=◌ at need
-  find-not h = rw (spelled-alike s (take n scope), le-ltb _ _ h)
+  pub found-below : (r : Option ℕ) (e : Refusal) → Finds (letters_of s w) (map (letters_of s) declared) r → IfOk (ok_or r e) (λ k. k < length declared)
+  found-below (Some k) e h = omega (arith, h.1, length-map declared (letters_of s))
+  found-below None e h = tt
 
-  pub role-found : {k : ℕ} → Seen (At k) → role_at (scope_in s (take n scope)) k ≡ role_in (get_or scope k 0)
-  role-found {k} h =
-      let l = below-count h in
-      let g : k < n = omega (arith, length-take n scope) in
-      role-there s (take n scope) k l ∙ ap role_in (get_or-take n scope k 0 g)
-
-  -- ---- in an expression at p
-
-  module _ (p : ℕ) (u : List ℕ) where
-    pub name-unknown : (r : Found) (q : ℕ) → Seen r → r ≡ Nothing → q ≡ place_of w → name_step s p (take n scope) u w ≡ refuse 7 q
+  module _ {n q : ℕ} (f : find (scope_in s declared) (name_of s w) ≡ refuse n q) where
+    pub name-unknown : (p : ℕ) (u : List ℕ) → name_step s p declared u w ≡ refuse n q
     unfolding name_step ◌>>=◌
-    name-unknown r q h t e = rw (find-not (seen-not r h t), e)
+    name-unknown p u = rw f
 
-    module _ (r : Found) {k : ℕ} (d x : ℕ) (b : Bool) (h : Seen r) (t : r ≡ At k) (e : d ≡ get_or scope k 0) (f : x ≡ get_or u k 0) (c : b ≡ standing p x (role_in d)) where
-      pub name-bars : (q : ℕ) → b ≡ false → q ≡ place_of w → name_step s p (take n scope) u w ≡ refuse 7 q
-      unfolding name_step ◌>>=◌ at need
-      name-bars q g l = let a = seen_at r h t in rw (find_at a, role-found a, ← e, ← f, ← c, g, l)
+    pub index-unknown : index_step s declared w ≡ refuse n q
+    unfolding index_step ◌>>=◌
+    index-unknown = rw f
 
-      pub name-stands : b ≡ true → length scope ≤ 48 → (name_step s p (take n scope) u w ≡ ok k) × (k < 128)
-      unfolding name_step ◌>>=◌ at need
-      name-stands g l = let a = seen_at r h t in (rw (find_at a, role-found a, ← e, ← f, ← c, g), omega (arith, below_all a))
-
-  -- ---- as a loop's index
-
-  pub index-unknown : (r : Found) (q : ℕ) → Seen r → r ≡ Nothing → q ≡ place_of w → index_step s (take n scope) w ≡ refuse 7 q
-  unfolding index_step ◌>>=◌
-  index-unknown r q h t e = rw (find-not (seen-not r h t), e)
-
-  module _ (r : Found) {k : ℕ} (d : ℕ) (b : Bool) (h : Seen r) (t : r ≡ At k) (e : d ≡ get_or scope k 0) (c : b ≡ is_index (role_in d)) where
-    pub index-bars : (q : ℕ) → b ≡ false → q ≡ place_of w → index_step s (take n scope) w ≡ refuse 7 q
-    unfolding index_step ◌>>=◌ at need
-    index-bars q g l = let a = seen_at r h t in rw (find_at a, role-found a, ← e, ← c, g, l)
-
-    pub index-stands : b ≡ true → length scope ≤ 48 → (index_step s (take n scope) w ≡ ok k) × (k < 128)
-    unfolding index_step ◌>>=◌ at need
-    index-stands g l = let a = seen_at r h t in (rw (find_at a, role-found a, ← e, ← c, g), omega (arith, below_all a))
-
-  -- ---- as an argument, for the port of word v
-
-  module _ (v : ℕ) where
-    pub argument-unknown : (r : Found) (q : ℕ) → Seen r → r ≡ Nothing → q ≡ place_of w → argument_step s (take n scope) v w ≡ refuse 7 q
+    pub argument-unknown : (v : ℕ) → argument_step s declared v w ≡ refuse n q
     unfolding argument_step ◌>>=◌
-    argument-unknown r q h t e = rw (find-not (seen-not r h t), e)
+    argument-unknown v = rw f
 
-    module _ (r : Found) {k : ℕ} (d x : ℕ) (b : Bool) (h : Seen r) (t : r ≡ At k) (e : d ≡ get_or scope k 0) (f : x ≡ head_in w) (c : b ≡ sort_fits x (role_in d)) where
-      pub sort-bars : (q : ℕ) → b ≡ false → q ≡ place_of w → argument_step s (take n scope) v w ≡ refuse 7 q
+  -- it was found as the number k
+  module _ {k : ℕ} (f : find (scope_in s declared) (name_of s w) ≡ ok k) (l : k < length declared) where
+    -- in an expression at p
+    module _ (p : ℕ) (u : List ℕ) (x : ℕ) (e : x ≡ get_or u k 0) (b : Bool) (c : b ≡ standing p x (role_in (get_or declared k 0))) where
+      pub name-stands : b ≡ true → name_step s p declared u w ≡ ok k
+      unfolding name_step ◌>>=◌ at need
+      name-stands g = rw (f, role-there s declared k l, ← e, ← c, g)
+
+      pub name-bars : b ≡ false → name_step s p declared u w ≡ refuse 7 (place_of w)
+      unfolding name_step ◌>>=◌ at need
+      name-bars g = rw (f, role-there s declared k l, ← e, ← c, g)
+
+    -- as a loop's index
+    module _ (b : Bool) (c : b ≡ is_index (role_in (get_or declared k 0))) where
+      pub index-stands : b ≡ true → index_step s declared w ≡ ok k
+      unfolding index_step ◌>>=◌ at need
+      index-stands g = rw (f, role-there s declared k l, ← c, g)
+
+      pub index-bars : b ≡ false → index_step s declared w ≡ refuse 7 (place_of w)
+      unfolding index_step ◌>>=◌ at need
+      index-bars g = rw (f, role-there s declared k l, ← c, g)
+
+    -- as an argument, for the port of word v
+    module _ (v : ℕ) (x : ℕ) (e : x ≡ head_in w) (b : Bool) (c : b ≡ sort_fits x (role_in (get_or declared k 0))) where
+      pub sort-bars : b ≡ false → argument_step s declared v w ≡ refuse 7 (place_of w)
       unfolding argument_step ◌>>=◌ at need
-      sort-bars q g l = let a = seen_at r h t in rw (find_at a, role-found a, ← e, ← f, ← c, g, l)
+      sort-bars g = rw (f, role-there s declared k l, ← e, ← c, g)
 
-      module _ (y : ℕ) (z : Bool) (g : b ≡ true) (i : y ≡ head_in v) (j : z ≡ shape_fits x (role_in d) (eqb y 0)) where
-        pub shape-bars : (q : ℕ) → z ≡ false → q ≡ place_of w → argument_step s (take n scope) v w ≡ refuse 8 q
+      module _ (t : b ≡ true) (z : Bool) (d : z ≡ shape_fits x (role_in (get_or declared k 0)) (eqb (head_in v) 0)) where
+        pub shape-stands : z ≡ true → argument_step s declared v w ≡ ok k
         unfolding argument_step ◌>>=◌ at need
-        shape-bars q m l = let a = seen_at r h t in rw (find_at a, role-found a, ← e, ← f, ← c, g, ← i, ← j, m, l)
+        shape-stands g = rw (f, role-there s declared k l, ← e, ← c, t, ← d, g)
 
-        pub shape-stands : z ≡ true → length scope ≤ 48 → (argument_step s (take n scope) v w ≡ ok k) × (k < 128)
+        pub shape-bars : z ≡ false → argument_step s declared v w ≡ refuse 8 (place_of w)
         unfolding argument_step ◌>>=◌ at need
-        shape-stands m l = let a = seen_at r h t in (rw (find_at a, role-found a, ← e, ← f, ← c, g, ← i, ← j, m), omega (arith, below_all a))
+        shape-bars g = rw (f, role-there s declared k l, ← e, ← c, t, ← d, g)
 
-  -- ---- declared already?
+-- ---- a call's name, among the words that name blocks
 
-  pub is-in : (r : Found) {k : ℕ} → Seen r → r ≡ At k → true ≡ is_in (letters_of s w) (map (letters_of s) (take n scope))
-  is-in r h t = let a = seen_at r h t in rw (← a.0) (sym (lt-ltb _ _ a.1))
-
-  pub is-not-in : (r : Found) → Seen r → r ≡ Nothing → false ≡ is_in (letters_of s w) (map (letters_of s) (take n scope))
-  is-not-in r h t = sym (le-ltb _ _ (seen-not r h t))
-
--- ---- a call's name, among the first n of the words that name blocks
-
-module _ (s N : List ℕ) (n w k : ℕ) (p : k ≡ index_of (letters_of s w) primitive_names) where
-  pub callee-gate : k < 10 → (callee_in s (take n N) w ≡ ok k) × (k < 128)
+module _ (s N : List ℕ) (w : ℕ) where
+  pub callee-gate : {k : ℕ} → Finds (letters_of s w) primitive_names (Some k) → callee_in s N w ≡ ok k
   unfolding callee_in pick
-  callee-gate h = (rw (← p, lt-ltb k 10 h), omega arith)
+  callee-gate h = rw (← h.0, lt-ltb _ 10 h.1)
 
-  module _ (l : 10 ≤ k) (r : Found) (h : Finds (letters_of s w) (map (letters_of s) (take n N)) r) where
-    pub callee-none : (q : ℕ) → r ≡ Nothing → q ≡ place_of w → callee_in s (take n N) w ≡ refuse 7 q
+  module _ (l : Finds (letters_of s w) primitive_names None) where
+    pub callee-none : Finds (letters_of s w) (map (letters_of s) N) None → callee_in s N w ≡ refuse 7 (place_of w)
     unfolding callee_in pick ◌>>=◌ at need
-    callee-none q t e = rw (← p, le-ltb k 10 l, le-ltb _ _ (seen-not s N n w r h t), e)
+    callee-none h = rw (le-ltb _ 10 l, le-ltb _ _ h)
 
-    pub callee-block : {b : ℕ} → r ≡ At b → length N ≤ 64 → (callee_in s (take n N) w ≡ ok (10 + b)) × (10 + b < 128)
+    pub callee-block : {b : ℕ} → Finds (letters_of s w) (map (letters_of s) N) (Some b) → callee_in s N w ≡ ok (10 + b)
     unfolding callee_in pick ◌>>=◌ at need
-    callee-block {b} t f =
-        let a = seen_at s N n w r h t in
-        (rw (← p, le-ltb k 10 l, ← a.0, lt-ltb _ _ a.1), omega (arith, below_all s N n w a))
+    callee-block h = rw (le-ltb _ 10 l, ← h.0, lt-ltb _ _ h.1)
 
 -- where a word is found in two lists, one after the other
 pub in-first : (w : List ℕ) (us vs : List (List ℕ)) → index_of w us < length us → index_of w (us ++ vs) ≡ index_of w us
@@ -174,16 +143,13 @@ in_either w us vs = go (ltb (index_of w us) (length us)) refl
         let h = ltb-false (index_of w us) (length us) e in
         rw (e, in-second w us vs h, length-append us vs) (shifted (length us) (index_of w vs) (length vs))
 
-module _ (s N : List ℕ) (n w k : ℕ) (p : k ≡ index_of (letters_of s w) primitive_names) where
-  pub taken-gate : k < 10 → true ≡ is_in (letters_of s w) (primitive_names ++ map (letters_of s) (take n N))
-  taken-gate h = sym (in_either (letters_of s w) primitive_names (map (letters_of s) (take n N)) ∙ rw (← p, lt-ltb k 10 h))
+-- a spelling is looked for in two lists
+module _ (l : List ℕ) (us vs : List (List ℕ)) (r : Option ℕ) (h : Finds l us r) where
+  pub taken-first : is_some r ≡ true → true ≡ is_in l (us ++ vs)
+  taken-first e = sym (in_either l us vs ∙ rw (sym (found-in l us r h) ∙ e))
 
-  module _ (l : 10 ≤ k) (r : Found) (h : Finds (letters_of s w) (map (letters_of s) (take n N)) r) where
-    pub taken-block : {b : ℕ} → r ≡ At b → true ≡ is_in (letters_of s w) (primitive_names ++ map (letters_of s) (take n N))
-    taken-block t = is-in s N n w r h t ∙ sym (in_either (letters_of s w) primitive_names (map (letters_of s) (take n N)) ∙ rw (← p, le-ltb k 10 l))
-
-    pub not_taken : r ≡ Nothing → false ≡ is_in (letters_of s w) (primitive_names ++ map (letters_of s) (take n N))
-    not_taken t = is-not-in s N n w r h t ∙ sym (in_either (letters_of s w) primitive_names (map (letters_of s) (take n N)) ∙ rw (← p, le-ltb k 10 l))
+  pub taken-second : is_some r ≡ false → (q : Option ℕ) → Finds l vs q → is_some q ≡ is_in l (us ++ vs)
+  taken-second e q g = found-in l vs q g ∙ sym (in_either l us vs ∙ rw (sym (found-in l us r h) ∙ e))
 
 -- ---- what is found becomes the answer
 
@@ -195,57 +161,37 @@ pub then-state : {o : Out ℕ} (f : ℕ → ℕ × State) {k v : ℕ} {S : State
 unfolding after
 then-state f e a b = rw (e, a, b)
 
-pub tells-done : (o : Out ℕ) (n : Named) {k : ℕ} → Tells o n → n ≡ Done k → (o ≡ ok k) × (k < 128)
-tells-done o n h e = subst (λ n. Tells o n) e h
-
-pub tells-no : (o : Out ℕ) (n : Named) {m p : ℕ} → Tells o n → n ≡ No m p → o ≡ refuse m p
-tells-no o n h e = subst (λ n. Tells o n) e h
-
-pub is-small : (o : Out ℕ) (n : Named) → Tells o n → Small n
-is-small o (Done k) h = h.1
-is-small o (No n p) h = tt
-
-pub small-done : (n : Named) {k : ℕ} → Small n → n ≡ Done k → k < 128
-small-done n h e = subst (λ n. Small n) e h
-
 -- ---- a call's counts
 
 module _ (s H F N : List ℕ) (w : ℕ) (ws : List ℕ) where
-  pub call-no : (n : Named) {m p : ℕ} → Tells (callee_in s N w) n → n ≡ No m p → Tells (call_step s H F N w ws) n
+  pub call-unknown : {n q : ℕ} → callee_in s N w ≡ refuse n q → call_step s H F N w ws ≡ refuse n q
   unfolding call_step ◌>>=◌
-  call-no n {m} {p} h e = let z = tells-no (callee_in s N w) n h e in subst⁻¹ (λ n. Tells (call_step s H F N w ws) n) e (rw z refl)
+  call-unknown e = rw e
 
-  module _ (n : Named) {c : ℕ} (hd : Heading) (b : Bool) (h : Tells (callee_in s N w) n) (e : n ≡ Done c) (f : hd ≡ heading_of H F c) (g : b ≡ counts_fit hd ws) where
-    pub call_fits : b ≡ true → Tells (call_step s H F N w ws) (Done c)
+  module _ {c : ℕ} (e : callee_in s N w ≡ ok c) (b : Bool) (g : b ≡ counts_fit (heading_of H F c) ws) where
+    pub call-fits : b ≡ true → call_step s H F N w ws ≡ ok c
     unfolding call_step ◌>>=◌ at need
-    call_fits t = let z = tells-done (callee_in s N w) n h e in (rw (z.0, ← f, ← g, t), z.1)
+    call-fits t = rw (e, ← g, t)
 
-    pub call-bars : (q : ℕ) → b ≡ false → q ≡ place_of w → call_step s H F N w ws ≡ refuse 8 q
+    pub call-bars : b ≡ false → call_step s H F N w ws ≡ refuse 8 (place_of w)
     unfolding call_step ◌>>=◌ at need
-    call-bars q t l = let z = tells-done (callee_in s N w) n h e in rw (z.0, ← f, ← g, t, l)
+    call-bars t = rw (e, ← g, t)
 
 -- ---- blocks and declarations
 
-take_min : (b k : ℕ) (t : List ℕ) → take b (take k t) ≡ take (min b k) t
-take_min b k t = go (dec_le b k)
-  where
-    go : Dec (b ≤ k) → take b (take k t) ≡ take (min b k) t
-    go (yes h) = let e : min b k ≡ b = omega arith in rw e (take-take b k t h)
-    go (no h) = let e : min b k ≡ k = omega arith in rw e (take_all b (take k t) (simp length-take (omega arith)))
-
-module _ (s t : List ℕ) (b k m w : ℕ) (e : m ≡ min b k) (r : Bool) (h : r ≡ is_in (letters_of s w) (primitive_names ++ map (letters_of s) (take m t))) where
-  pub block-bars : {B : Type 0} (f : Unit {0} → B) (q : ℕ) → r ≡ true → q ≡ place_of w → after (block_step s (take b (take k t)) w) f ≡ refuse 6 q
+module _ (s ts : List ℕ) (w : ℕ) (r : Bool) (h : r ≡ is_in (letters_of s w) (primitive_names ++ map (letters_of s) ts)) where
+  pub block-bars : {B : Type 0} (f : Unit {0} → B) → r ≡ true → after (block_step s ts w) f ≡ refuse 6 (place_of w)
   unfolding block_step at need after
-  block-bars f q g l = rw (take_min b k t, ← e, ← h, g, l)
+  block-bars f g = rw (← h, g)
 
-  pub block-begins : {B : Type 0} (f : Unit {0} → B) → r ≡ false → after (block_step s (take b (take k t)) w) f ≡ ok (f tt)
+  pub block-begins : {B : Type 0} (f : Unit {0} → B) → r ≡ false → after (block_step s ts w) f ≡ ok (f tt)
   unfolding block_step at need after
-  block-begins f g = rw (take_min b k t, ← e, ← h, g)
+  block-begins f g = rw (← h, g)
 
 module _ (s ws : List ℕ) (w : ℕ) (r : Bool) (h : r ≡ is_in (letters_of s w) (map (letters_of s) ws)) where
-  pub declare-bars : {B : Type 0} (f : Unit {0} → B) (q : ℕ) → r ≡ true → q ≡ place_of w → after (declare_step s ws w) f ≡ refuse 6 q
+  pub declare-bars : {B : Type 0} (f : Unit {0} → B) → r ≡ true → after (declare_step s ws w) f ≡ refuse 6 (place_of w)
   unfolding declare_step once at need after
-  declare-bars f q g l = rw (spelled-alike s ws, ← h, g, l)
+  declare-bars f g = rw (spelled-alike s ws, ← h, g)
 
   pub declare-once : {B : Type 0} (f : Unit {0} → B) → r ≡ false → after (declare_step s ws w) f ≡ ok (f tt)
   unfolding declare_step once at need after

@@ -1,5 +1,5 @@
 -- Laws of the sweep: a word by its kind, and one word after another. Assumes nothing.
-use Rattle.std.specs.Prelude.{◌≡◌, refl, Bool, true, false, ◌||◌, List, [], ◌∷◌, ◌++◌, ℕ, zero, suc, ◌+◌, ◌-◌, ◌<◌, ◌≤◌, eqb, length, get_or, set, take, drop}
+use Rattle.std.specs.Prelude.{◌≡◌, refl, Bool, true, false, ◌||◌, List, [], ◌∷◌, ◌++◌, ℕ, zero, suc, ◌+◌, ◌-◌, ◌<◌, ◌≤◌, eqb, length, get_or, set, take, drop, Result}
 use Rattle.std.proofs.Common.{sym, ◌∙◌, subst, append-nil, add-one, arith, take-suc-set, drop-set-lt, get_or-drop, drop-drop}
 use Rattle.std.proofs.Math.Path.{ap}
 use Rattle.std.proofs.Math.Seq.{append_snoc, take-nil}
@@ -7,14 +7,14 @@ use borrow.Author.Tests.{ne_eqb, lt-ltb, le-ltb}
 use Rattle.rules.specs.Text.{pick}
 use Rattle.rules.specs.Outcome.{Out, ok, refuse, ◌>>=◌}
 use Rattle.tape.specs.Layout.{kind_of, value_of}
-use Rattle.sweep.specs.declared.Turn.{Turn}
-use Rattle.sweep.specs.declared.Turn.TheVariants.{Word, Halt}
+use Rattle.rules.specs.declared.Refusal.{Refusal}
+use Rattle.sweep.specs.declared.Step.{Step}
 use Rattle.sweep.specs.Spelling.{valued}
 use Rattle.sweep.specs.Sweep.{State, declared_at, name_step, index_step, argument_step, call_step, block_step, declare_step, heading_of, after, called, argued, indexed, entered, begun, declares, turn, sweep, onto, Says}
 use Rattle.sweep.proofs.Laws.Counts.{opened, none_left}
 
-pub says-as : {o u : Out (ℕ × State)} (t : Turn) (S : State) → o ≡ u → Says u t S → Says o t S
-says-as t S e h = subst (λ o. Says o t S) (sym e) h
+pub says-as : {o u : Out (ℕ × State)} (scope until : List ℕ) (r : Result Step Refusal) → o ≡ u → Says u scope until r → Says o scope until r
+says-as scope until r e h = subst (λ o. Says o scope until r) (sym e) h
 
 module _ (s H F N : List ℕ) (p : ℕ) (S : State) (w : ℕ) (ws : List ℕ) (k : ℕ) (e : k ≡ kind_of w) where
   pub turn-name : k ≡ 1 → turn s H F N p S w ws ≡ after (name_step s p (declared_at S) S.until w) (λ k. (valued w k, S))
@@ -50,12 +50,6 @@ module _ (s H F N : List ℕ) (p : ℕ) (S : State) (w : ℕ) (ws : List ℕ) (k
     pub turn-other : k ≤ 9 → turn s H F N p S w ws ≡ ok (w, S)
     unfolding turn pick
     turn-other h = rw (← e, ne_eqb k 1 n₁, ne_eqb k 3 n₃, ← f, t, ne_eqb k 7 n₇, ne_eqb k 8 n₈, ne_eqb k 9 n₉, le-ltb 9 k h)
-
-pub says-word : (o : Out (ℕ × State)) (t : Turn) (S : State) {w : ℕ} → Says o t S → t ≡ Word w → o ≡ ok (w, S)
-says-word o t S h e = subst (λ t. Says o t S) e h
-
-pub says-halt : (o : Out (ℕ × State)) (t : Turn) (S : State) {n p : ℕ} → Says o t S → t ≡ Halt n p → o ≡ refuse n p
-says-halt o t S h e = subst (λ t. Says o t S) e h
 
 -- ---- one word after another
 

@@ -1,5 +1,5 @@
 -- The sweep over a program's tape, and main after it, are the rule for names. Assumes nothing.
-use Rattle.std.specs.Prelude.{◌≡◌, Bool, true, false, ltb, length, set, take, drop}
+use Rattle.std.specs.Prelude.{◌≡◌, Bool, true, false, ltb, length, set, take, drop, Result, Ok, Err}
 use Rattle.std.proofs.Math.Path.{refl, sym, ap}
 use Rattle.std.proofs.Common.{◌∙◌, subst, arith, length-take, length-set, take-append-drop, ext_get_or, get_or-take, ne_eqb, lt-ltb, le-ltb}
 use Rattle.std.proofs.Math.Bool.{not}
@@ -22,8 +22,7 @@ use Rattle.tape.specs.Lies.{Lies}
 use Rattle.sweep.specs.Spelling.{place_of}
 use Rattle.sweep.specs.Sweep.{start, headings, titles, firsts, leading, heading_at, Rows, Answers, Swept, main_in, after, sweep}
 use Rattle.sweep.specs.Resolves.{Holds, Readable, Right, Resolves}
-use Rattle.sweep.specs.declared.Named.{Named}
-use Rattle.sweep.specs.declared.Named.TheVariants.{Done, No}
+use Rattle.rules.specs.declared.Refusal.{Refusal}
 use Rattle.sweep.proofs.Laws.Expressions.{emit, name-place}
 use Rattle.sweep.proofs.Laws.Callees.{Knows, Heads}
 use Rattle.sweep.proofs.Laws.Blocks.{blocks-swept}
@@ -224,19 +223,19 @@ module _ (s t : List ℕ) (end : ℕ) {h₀ h f₀ f n₀ n sc un : List ℕ} {k
   main-so : main_in s h f (take k n) ≡ main_in s (put (zeros 3140) 4 (headings (take end t))) (put (zeros 64) 0 (firsts 4 (take end t))) (take (length (titles (take end t))) (put (zeros 64) 0 (titles (take end t))))
   main-so = rw (a', b', c') refl
 
-  module _ (u : List ℕ) (r : Named) (w : Swept (sweep s h f (take k n) 0 (start sc un) (take end t)) end t u r) where
-    pub lent-no : {m p : ℕ} → r ≡ No m p → (Bs : Spelled) → Holds s t end Bs → Resolves s Bs t u r
-    lent-no e Bs holds = subst (λ r. Resolves s Bs t u r) (sym e) (swept-no s t end Bs holds (sym swept-so ∙ subst (λ r. Swept (sweep s h f (take k n) 0 (start sc un) (take end t)) end t u r) e w))
+  module _ (u : List ℕ) (r : Result (Unit {0}) Refusal) (w : Swept (sweep s h f (take k n) 0 (start sc un) (take end t)) end t u r) where
+    pub lent-no : {x : Refusal} → r ≡ Err x → (Bs : Spelled) → Holds s t end Bs → Resolves s Bs t u (Err x)
+    lent-no e Bs holds = swept-no s t end Bs holds (sym swept-so ∙ subst (λ r. Swept (sweep s h f (take k n) 0 (start sc un) (take end t)) end t u r) e w)
 
-    pub lent-main : {x : ℕ} → r ≡ Done x → (v : Named) → Answers (main_in s h f (take k n)) v → (Bs : Spelled) → Holds s t end Bs → Resolves s Bs t u v
-    lent-main {x} e v g Bs holds = go v g
+    pub lent-main : r ≡ Ok tt → (v : Result ℕ Refusal) → Answers (main_in s h f (take k n)) v → (Bs : Spelled) → Holds s t end Bs → Resolves s Bs t u v
+    lent-main e v g Bs holds = go v g
       where
-        y : Swept (sweep s h f (take k n) 0 (start sc un) (take end t)) end t u (Done x)
+        y : Swept (sweep s h f (take k n) 0 (start sc un) (take end t)) end t u (Ok tt)
         y = subst (λ r. Swept (sweep s h f (take k n) 0 (start sc un) (take end t)) end t u r) e w
 
-        go : (v : Named) → Answers (main_in s h f (take k n)) v → Resolves s Bs t u v
-        go (Done m) g = all_right s t end Bs holds u (sym swept-so ∙ y.0) y.1 y.2 (sym main-so ∙ g)
-        go (No m p) g = main-no s t end Bs holds u (sym swept-so ∙ y.0) y.1 y.2 (sym main-so ∙ g)
+        go : (v : Result ℕ Refusal) → Answers (main_in s h f (take k n)) v → Resolves s Bs t u v
+        go (Ok m) g = all_right s t end Bs holds u (sym swept-so ∙ y.0) y.1 y.2 (sym main-so ∙ g)
+        go (Err x) g = main-no s t end Bs holds u (sym swept-so ∙ y.0) y.1 y.2 (sym main-so ∙ g)
 
 pub tape-there : (s t : List ℕ) (end : ℕ) → Readable s t end → end ≤ length t
 tape-there s t end r = omega (arith, r.holds.size, r.holds.lies.fits)

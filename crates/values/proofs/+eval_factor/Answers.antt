@@ -1,7 +1,8 @@
 use mathlib.Core.Path.{sym, ◌∙◌}
 use native.Mathlib.Omega.{arith}
-use borrow.Author.Rules.{rules}
-use Rattle.values.specs.Taking.{begin, factor-next, factor-some, turn, onward, ending, one_word, inside, bracket-value}
+use Rattle.std.proofs.Common.{◌≡◌, rules, SFits, w32, to_z-of_z}
+use Rattle.values.specs.Here.{of-kind, not-kind, number_in}
+use Rattle.values.specs.Taking.{begin, factor-next, factor-some, turn, onward, ended, ended_beyond, one_word, inside, bracket-value}
 use Rattle.values.proofs.+eval_factor.Goals as goal
 
 pub eval-loop-sum-init : goal.eval-loop-sum-init
@@ -29,10 +30,16 @@ eval-bounds-tape-i t c = (turn c.requires.here (c.loop-sum.invariant _ c.require
 pub eval-goes_on-requires : goal.eval-goes_on-requires
 eval-goes_on-requires t c = c.requires.here.limit
 
+pub eval-returns-in_err-value : goal.eval-returns-in_err-value
+eval-returns-in_err-value t c e h =
+    let l = c.loop-sum.invariant e h in
+    rw c.from_residual.ensures (ended_beyond h l _ _ _ _ c.take-sum.ensures c.head_of-head.ensures (c.factor-v.ensures l.first (rw c.after-next.ensures (factor-next h l))) c.after-next.ensures (sym c.goes_on.ensures ∙ c.if-not-goes_on.true) (sym c.total.ensures ∙ c.in_err-value.was))
+
 pub eval-returns-then-not-goes_on : goal.eval-returns-then-not-goes_on
 eval-returns-then-not-goes_on t c e h =
     let l = c.loop-sum.invariant e h in
-    ending h l _ _ _ _ _ c.take-sum.ensures c.head_of-head.ensures (c.factor-v.ensures l.first (rw c.after-next.ensures (factor-next h l))) c.after-next.ensures (sym c.goes_on.ensures ∙ c.if-not-goes_on.true) c.answer.ensures
+    let z : SFits w32 c.in_ok-value.value = search rules in
+    rw (to_z-of_z {w = w32} z) (ended h l _ _ _ _ c.take-sum.ensures c.head_of-head.ensures (c.factor-v.ensures l.first (rw c.after-next.ensures (factor-next h l))) c.after-next.ensures (sym c.goes_on.ensures ∙ c.if-not-goes_on.true) (sym c.total.ensures ∙ c.in_ok-value.was))
 
 pub eval-loop-sum-smaller : goal.eval-loop-sum-smaller
 eval-loop-sum-smaller t c =
@@ -50,19 +57,21 @@ factor-bounds-tape-i t c = let k = c.requires.here in omega (arith, k.limit, fac
 pub factor-overflow_add-i : goal.factor-overflow_add-i
 factor-overflow_add-i t c = let k = c.requires.here in omega (arith, k.short, factor-some k)
 
-pub factor-eval-v-requires : goal.factor-eval-v-requires
-factor-eval-v-requires t c =
+pub factor-eval-requires : goal.factor-eval-requires
+factor-eval-requires t c =
     let k = c.requires.here in
-    let b = inside _ _ _ _ _ k (sym c.kind_of.ensures ∙ c.if-kind_of-eq-BRACKET.true) in
+    let b = inside _ _ _ _ _ k (of-kind 2 c.is.ensures c.if-is.true) in
     (omega (arith, factor-some k), record { exp = b.exp; here = b.here })
 
-pub factor-returns-then-kind_of-eq-BRACKET : goal.factor-returns-then-kind_of-eq-BRACKET
-factor-returns-then-kind_of-eq-BRACKET t c f k =
-    let b = inside _ _ _ _ _ k (sym c.kind_of.ensures ∙ c.if-kind_of-eq-BRACKET.true) in
-    c.number_in.ensures ∙ bracket-value _ f.base b _ _ (c.eval-v.ensures b.exp b.here)
+pub factor-returns-then-is : goal.factor-returns-then-is
+factor-returns-then-is t c f k =
+    let b = inside _ _ _ _ _ k (of-kind 2 c.is.ensures c.if-is.true) in
+    let s = bracket-value _ f.base b _ _ (c.eval.ensures b.exp b.here) in
+    let e : c.map.result ≡ number_in c.eval.result = search rules in
+    e ∙ s
 
 pub factor-plain-requires : goal.factor-plain-requires
-factor-plain-requires t c = (one_word _ c.args.values.now _ _ _ _ c.requires.here (λ q. c.if-kind_of-eq-BRACKET.false (c.kind_of.ensures ∙ q))).slot
+factor-plain-requires t c = (one_word _ c.args.values.now _ _ _ _ c.requires.here (not-kind 2 c.is.ensures c.if-is.false)).slot
 
 pub factor-returns : goal.factor-returns
-factor-returns t c f k = c.plain.ensures ∙ (one_word _ _ _ _ _ _ k (λ q. c.if-kind_of-eq-BRACKET.false (c.kind_of.ensures ∙ q))).is
+factor-returns t c f k = c.plain.ensures ∙ (one_word _ _ _ _ _ _ k (not-kind 2 c.is.ensures c.if-is.false)).is

@@ -1,17 +1,9 @@
-use Rattle.write.specs.Put.{put-none, put_next, put-more, put_all}
-use lib.ListN.{length-set}
-use mathlib.Core.Path.{refl}
-use native.Mathlib.Omega.{arith}
+use Rattle.std.proofs.Common.{◌≡◌, refl, sym, ◌+◌, ◌≤◌, ℕ, List, ◌++◌, length, take, drop, append_assoc, drop-drop, arith}
+use Rattle.std.proofs.lemmas.List.Edits.{sets, sets-eq}
 use Rattle.write.proofs.copy.Goals as goal
 
-pub loop-i-init : goal.loop-i-init
-loop-i-init c = (refl, omega arith, put_next (omega arith) put-none)
-
-pub loop-i-preserved : goal.loop-i-preserved
-loop-i-preserved c = (simp length-set c.loop-i.invariant.0, omega arith, put-more _ _ _ c.loop-i.invariant.2 c.loop-i-test.true)
-
-pub shape_of-text : goal.shape_of-text
-shape_of-text c = c.loop-i.invariant.0
+copied : (t s : List ℕ) (at k : ℕ) {ys : List ℕ} → at + length s ≤ length t → ys ≡ s → k ≡ length s → take at t ++ (ys ++ drop k (drop at t)) ≡ sets t at s
+copied t s at k h e f = rw (e, f, drop-drop (length s) at t, sets-eq s t at h) (sym (append_assoc (take at t) s (drop (at + length s) t)))
 
 pub returns : goal.returns
-returns c = put_all _ _ c.loop-i.invariant.2 c.loop-i-test.false
+returns c = record { next = refl; text = copied c.args.text.now c.args.s.now c.args.at _ c.requires c.copy_from_slice.ensures.after (omega arith) }
