@@ -4,6 +4,7 @@
 ghost use Rattle.compare.specs.Compared.{Calls, WrittenAs};
 ghost use Rattle.compare.specs.Rest.{begins, otherwise, rest_laws};
 
+use netlist::Netlist;
 use write::pieces;
 use write::pieces::Pieces;
 
@@ -42,9 +43,9 @@ pub fn calls(text: &[u8], at: usize, kind: u16) -> bool
 pub fn written_as(net: &[u16], text: &[u8]) -> bool
     ensures { WrittenAs net.now text.now result }
 {
-    if !netlist::well_formed(net) {
+    let Ok(net) = Netlist::new(net) else {
         return false;
-    }
+    };
     let mut rest = Rest { text };
     pieces::text(net, &mut rest).is_some() && rest.text.is_empty()
 }

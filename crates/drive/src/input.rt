@@ -1,145 +1,108 @@
-// Standard input, byte by byte through a buffer. `seen` holds where the next byte stands in the buffer, and where the last read ended.
-ghost use Rattle.std.specs.Prelude.{◌<◌, ◌≡◌};
+// Standard input, byte by byte through a buffer. std's `BufReader` wants an allocator, and this project has no heap.
+ghost use Rattle.std.specs.Prelude.{◌≡◌, ◌+◌, ◌≤◌, ◌<◌, IfSome, slice_get};
 
-use std::io::Read;
+use std::io::{Read, Stdin};
 
-// What `next` answers where the input has ended.
-const ENDED: usize = 256;
-
-// What `number` answers where no number stands: more than every command allows.
-const NONE: usize = 1000000;
-
-fn wide(b: u8) -> usize
-    ensures { result ≡ b }
-{
-    b as usize
-}
-
-fn fill(rt: HostRuntime, buffer: &mut [u8]) -> usize {
-    rt.stdin().read(buffer).unwrap_or(0)
-}
-
-// Reads on where every byte that came has been taken.
-fn refill(rt: HostRuntime, buffer: &mut [u8; 4096], seen: &mut [usize; 2]) {
-    if seen[0] < seen[1] {
-        return;
-    }
-    let n = fill(rt, buffer);
-    seen[0] = 0;
-    seen[1] = n;
-}
-
-// One byte, or 256 at the input's end.
-pub fn next(rt: HostRuntime, buffer: &mut [u8; 4096], seen: &mut [usize; 2]) -> usize {
-    refill(rt, buffer, seen);
-    let at = seen[0];
-    if at < seen[1] {
-        if at < 4096 {
-            seen[0] = at + 1;
-            return wide(buffer[at]);
-        }
-    }
-    ENDED
-}
-
-// Whether these bytes come next.
-pub fn expect(
-    rt: HostRuntime,
-    buffer: &mut [u8; 4096],
-    seen: &mut [usize; 2],
-    word: &[u8],
-) -> bool {
-    let mut i = 0;
-    while i < word.len() {
-        if next(rt, buffer, seen) != wide(word[i]) {
-            return false;
-        }
-        i += 1;
-    }
-    true
-}
-
-// One digit more; a number that is too large for every command stays so.
-fn more(value: usize, digit: usize) -> usize
-    requires { digit < 10 }
-{
-    if value < NONE {
-        return value * 10 + digit;
-    }
-    value
-}
-
-fn found(value: usize, none: bool) -> usize {
-    if none {
-        return NONE;
-    }
-    value
-}
-
-// The decimal number that comes next, with the byte `end` right behind it.
-pub fn number(
-    rt: HostRuntime,
-    buffer: &mut [u8; 4096],
-    seen: &mut [usize; 2],
+#[derive(Drop)]
+pub struct Input {
+    from: Stdin,
+    buffer: [u8; 4096],
+    // Where the next byte stands, and where the last read ended.
+    at: usize,
     end: usize,
-) -> usize {
-    let mut value: usize = 0;
-    let mut left = usize::MAX;
-    while left > 0 {
-        let b = next(rt, buffer, seen);
-        if b == end {
-            return found(value, left == usize::MAX);
-        }
-        if b < 48 {
-            return NONE;
-        }
-        if 57 < b {
-            return NONE;
-        }
-        value = more(value, b - 48);
-        left -= 1;
-    }
-    NONE
+    ghost begun: { at ≤ end },
+    ghost within: { end ≤ 4096 },
 }
 
-// Fills lent memory; whether the input had enough.
-pub fn bytes(
-    rt: HostRuntime,
-    buffer: &mut [u8; 4096],
-    seen: &mut [usize; 2],
-    to: &mut [u8],
-) -> bool {
-    let mut i = 0;
-    while i < to.len() {
-        let b = next(rt, buffer, seen);
-        if b > 255 {
-            return false;
-        }
-        to[i] = b as u8;
-        i += 1;
-    }
-    true
+// What lent memory is made of, and how one comes from the input.
+pub trait Cell: Copy {
+    fn read(input: &mut Input) -> Option<Self>;
 }
 
-// The same for words, the low byte first.
-pub fn words(
-    rt: HostRuntime,
-    buffer: &mut [u8; 4096],
-    seen: &mut [usize; 2],
-    to: &mut [u16],
-) -> bool {
-    let mut i = 0;
-    while i < to.len() {
-        let low = next(rt, buffer, seen);
-        let high = next(rt, buffer, seen);
-        if low > 255 {
-            return false;
-        }
-        if high > 255 {
-            return false;
-        }
-        to[i] = (high * 256 + low) as u16;
-        i += 1;
+impl Cell for u8 {
+    fn read(input: &mut Input) -> Option<u8> {
+        input.next()
     }
-    true
+}
+
+// The low byte comes first.
+impl Cell for u16 {
+    fn read(input: &mut Input) -> Option<u16> {
+        let low = input.next()?;
+        let high = input.next()?;
+        Some(u16::from_le_bytes([low, high]))
+    }
+}
+
+fn digit(byte: u8) -> Option<usize> {
+    match byte {
+        b'0'..=b'9' => Some(usize::from(byte - b'0')),
+        _ => None,
+    }
+}
+
+impl Input {
+    pub fn new(from: Stdin) -> Input
+        ensures { result.at ≡ result.end }
+    {
+        Input {
+            from,
+            buffer: [0; 4096],
+            at: 0,
+            end: 0,
+        }
+    }
+
+    // A read that fails is taken as the input's end.
+    fn refill(&mut self) {
+        self.at = 0;
+        self.end = self.from.read(&mut self.buffer).unwrap_or(0);
+    }
+
+    // The next byte; none at the input's end. What was read is given in order, each byte once.
+    pub fn next(&mut self) -> Option<u8>
+        ensures byte { self.old.at < self.old.end → result ≡ slice_get self.old.buffer self.old.at }
+        ensures rest { self.old.at < self.old.end → (self.new.at ≡ self.old.at + 1) × (self.new.end ≡ self.old.end) × (self.new.buffer ≡ self.old.buffer) }
+    {
+        if self.at == self.end {
+            self.refill();
+        }
+        let byte = self.buffer[..self.end].get(self.at).copied()?;
+        self.at += 1;
+        Some(byte)
+    }
+
+    // These bytes, and no others.
+    pub fn expect(&mut self, word: &[u8]) -> Option<()> {
+        for &byte in word {
+            if self.next()? != byte {
+                return None;
+            }
+        }
+        Some(())
+    }
+
+    // The decimal number that comes next, with the byte `end` right behind it; none where it is over `most`.
+    pub fn number(&mut self, end: u8, most: usize) -> Option<usize>
+        ensures { IfSome result (λ n. n ≤ most) }
+    {
+        let mut value = digit(self.next()?)?;
+        // A proved loop has to end, and nothing says that the digits do.
+        for _ in 0..u64::MAX {
+            let byte = self.next()?;
+            if byte == end {
+                return (value <= most).then_some(value);
+            }
+            value = value.checked_mul(10)?.checked_add(digit(byte)?)?;
+        }
+        None
+    }
+
+    // Fills lent memory; none where the input has not enough.
+    pub fn fill<T: Cell>(&mut self, lent: &mut [T]) -> Option<()> {
+        for cell in lent {
+            *cell = T::read(self)?;
+        }
+        Some(())
+    }
 }

@@ -1,72 +1,78 @@
-// Standard output through a buffer, of which `used[0]` bytes are filled.
-ghost use Rattle.std.specs.Prelude.{◌≤◌, length};
+// Standard output through a buffer. std's `BufWriter` wants an allocator, and this project has no heap.
+ghost use Rattle.std.specs.Prelude.{◌≡◌, ◌≤◌, ◌<◌, [], ◌∷◌, ◌++◌, length, take};
 
-use std::io::Write;
+use std::io::{Stdout, Write};
 
-// Writes what is in the buffer.
-pub fn flush(rt: HostRuntime, buffer: &[u8], used: &mut [usize; 1]) {
-    let n = used[0];
-    used[0] = 0;
-    if n <= buffer.len() {
-        let _ = rt.stdout().write_all(&buffer[..n]);
-    }
+#[derive(Drop)]
+pub struct Output {
+    to: Stdout,
+    buffer: [u8; 4096],
+    // So many bytes of the buffer are filled.
+    used: usize,
+    ghost within: { used ≤ 4096 },
 }
 
-pub fn byte(rt: HostRuntime, buffer: &mut [u8; 4096], used: &mut [usize; 1], b: u8) {
-    if used[0] >= 4096 {
-        flush(rt, buffer, used);
-    }
-    let n = used[0];
-    if n < 4096 {
-        buffer[n] = b;
-        used[0] = n + 1;
-    }
-}
-
-pub fn bytes(rt: HostRuntime, buffer: &mut [u8; 4096], used: &mut [usize; 1], text: &[u8]) {
-    let mut i = 0;
-    while i < text.len() {
-        byte(rt, buffer, used, text[i]);
-        i += 1;
-    }
-}
-
-// A space and a number.
-pub fn number(rt: HostRuntime, buffer: &mut [u8; 4096], used: &mut [usize; 1], n: usize) {
-    let mut digits = [0u8; 20];
-    let k = io::decimal(n as u64, &mut digits);
-    byte(rt, buffer, used, 32);
-    bytes(rt, buffer, used, &digits[..k]);
-}
-
-// How many words there are up to the last that is not zero.
-fn filled(words: &[u16]) -> usize
-    ensures { result ≤ length words.now }
+// How many there are up to the last that is not zero.
+fn filled<T: Copy + Into<usize>>(numbers: &[T]) -> usize
+    ensures { result ≤ length numbers.now }
 {
-    let mut n = words.len();
-    while n > 0 {
-        if words[n - 1] != 0 {
-            return n;
-        }
-        n -= 1;
-    }
-    0
+    numbers
+        .iter()
+        .rposition(|n| (*n).into() != 0)
+        .map_or(0, |last| last + 1)
 }
 
-// A line: a word, and the words up to the last that is not zero.
-pub fn words(
-    rt: HostRuntime,
-    buffer: &mut [u8; 4096],
-    used: &mut [usize; 1],
-    word: &[u8],
-    words: &[u16],
-) {
-    bytes(rt, buffer, used, word);
-    let n = filled(words);
-    let mut i = 0;
-    while i < n {
-        number(rt, buffer, used, netlist::wide(words[i]));
-        i += 1;
+impl Output {
+    pub fn new(to: Stdout) -> Output
+        ensures { result.used ≡ 0 }
+    {
+        Output {
+            to,
+            buffer: [0; 4096],
+            used: 0,
+        }
     }
-    byte(rt, buffer, used, 10);
+
+    // Writes what is in the buffer; what cannot be written is lost.
+    pub fn flush(&mut self)
+        ensures { self.new.used ≡ 0 }
+    {
+        let _ = self.to.write_all(&self.buffer[..self.used]);
+        self.used = 0;
+    }
+
+    // One byte, behind those that are in the buffer; where it is full, they are written first.
+    pub fn byte(&mut self, byte: u8)
+        ensures room { self.old.used < 4096 → take self.new.used self.new.buffer ≡ take self.old.used self.old.buffer ++ byte ∷ [] }
+        ensures full { self.old.used ≡ 4096 → take self.new.used self.new.buffer ≡ byte ∷ [] }
+    {
+        if self.used == self.buffer.len() {
+            self.flush();
+        }
+        self.buffer[self.used] = byte;
+        self.used += 1;
+    }
+
+    pub fn bytes(&mut self, text: &[u8]) {
+        for &byte in text {
+            self.byte(byte);
+        }
+    }
+
+    // A space and a number.
+    pub fn number(&mut self, n: usize) {
+        let mut digits = [0; 20];
+        let k = io::decimal(n as u64, &mut digits);
+        self.byte(b' ');
+        self.bytes(&digits[..k]);
+    }
+
+    // A line: a word, and the numbers up to the last that is not zero.
+    pub fn line<T: Copy + Into<usize>>(&mut self, word: &[u8], numbers: &[T]) {
+        self.bytes(word);
+        for n in &numbers[..filled(numbers)] {
+            self.number((*n).into());
+        }
+        self.byte(b'\n');
+    }
 }

@@ -65,7 +65,8 @@ pub fn emit(
     if counts.gates >= GATES {
         return Err(Reason::TooManyGates);
     }
-    if out < inputs || marks[out] {
+    let driven = marks[out];
+    if out < inputs || driven {
         return Err(Reason::DrivenTwice);
     }
     marks[out] = true;

@@ -7,8 +7,8 @@ ghost use Rattle.rules.specs.Text.{pick};
 ghost use Rattle.tape.specs.Layout.{kind_of, head_in, value_of, GENERIC};
 ghost use Rattle.tape.specs.Kinds.{code as kind_code};
 ghost use Rattle.tape.specs.Written.{put};
-ghost use Rattle.sweep.specs.Sweep.{heading, headings, firsts, titles, leading, heading_at, heading_of, generics_given, in_call, given, counts_fit, Rows};
-ghost use Rattle.headings.specs.Callee.{code, Known};
+ghost use Rattle.sweep.specs.Sweep.{heading, headings, firsts, titles, leading, heading_at, generics_given, in_call, given, counts_fit, Rows};
+ghost use Rattle.headings.specs.Callee.{code, Known, wanted};
 
 use rules::Gate;
 use sweep::Heading;
@@ -17,6 +17,8 @@ use tape::Kind;
 // The headings of a tape's blocks.
 #[derive(Clone, Copy)]
 pub struct Headings<'a> {
+    // The text that spells their names.
+    pub text: &'a [u8],
     // The words that name blocks, generics and ports, from place 4 on.
     pub words: &'a [u32],
     // Where among them each block's heading begins.
@@ -165,8 +167,7 @@ impl Headings<'_> {
 
     // What a call wants.
     pub fn heading_of(&self, callee: Callee) -> Heading
-        requires { Known callee }
-        ensures { result ≡ heading_of self.now.words.now self.now.firsts.now (code callee) }
+        ensures { result ≡ wanted self.now.words.now self.now.firsts.now callee }
     {
         match callee {
             Callee::Primitive(kind) => Heading {

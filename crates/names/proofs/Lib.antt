@@ -1,1 +1,1 @@
-pub mod Main
+pub mod Told

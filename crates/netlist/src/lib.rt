@@ -1,13 +1,13 @@
 // The words of a netlist, when they are well formed, and how a wire is numbered.
 #![tactic(auto)]
 
-ghost use Rattle.std.specs.Prelude.{◌≡◌, ◌↔◌, IsTrue, List, ℕ, ◌+◌, ◌<◌, ◌≤◌, get_or, take};
+ghost use Rattle.std.specs.Prelude.{◌≡◌, ◌↔◌, IsTrue, List, ℕ, ◌+◌, ◌<◌, ◌≤◌, get_or, take, IfOk, IfErr};
 ghost use Rattle.rules.specs.Flat.{decimal};
-ghost use Rattle.rules.specs.Netlist.{gate_at, Slot, Fine};
+ghost use Rattle.rules.specs.Netlist.{inputs, outputs, wires, gates, gate_at, Slot, Fine, WellFormed};
 ghost use Rattle.netlist.specs.Judged.{Judged};
 ghost use Rattle.netlist.specs.Parts.{Head, Body};
 
-use rules::Gate;
+use rules::{Gate, Reason};
 use std::marker::Model;
 
 // The word at a place; past the end it reads as 0, so that any words may be given.
@@ -147,4 +147,57 @@ pub fn well_formed(words: &[u16]) -> bool
     ensures { Judged words.now result }
 {
     head(words) && body(words)
+}
+
+// Words that are a well-formed netlist.
+#[derive(Clone, Copy)]
+pub struct Netlist<'a> {
+    pub words: &'a [u16],
+    ghost well_formed: { WellFormed words.now },
+}
+
+impl<'a> Netlist<'a> {
+    pub fn new(words: &'a [u16]) -> Result<Netlist<'a>, Reason>
+        ensures made { IfOk result (λ n. n.words.now ≡ words.now) }
+        ensures refused { IfErr result (λ e. (e ≡ Reason.NotWellFormed) × (WellFormed words.now → ⊥)) }
+    {
+        if well_formed(words) {
+            Ok(Netlist { words })
+        } else {
+            Err(Reason::NotWellFormed)
+        }
+    }
+
+    // How many wires are inputs, the first ones.
+    pub fn inputs(self) -> u16
+        ensures { result ≡ inputs self.entry.words.now }
+    {
+        word(self.words, 0)
+    }
+
+    // How many are outputs, the next ones.
+    pub fn outputs(self) -> u16
+        ensures { result ≡ outputs self.entry.words.now }
+    {
+        word(self.words, 1)
+    }
+
+    pub fn wires(self) -> u16
+        ensures { result ≡ wires self.entry.words.now }
+    {
+        word(self.words, 2)
+    }
+
+    pub fn gates(self) -> u16
+        ensures { result ≡ gates self.entry.words.now }
+    {
+        word(self.words, 3)
+    }
+
+    // The record of gate i.
+    pub fn gate(self, i: u16) -> Gate
+        ensures { result ≡ gate_at self.entry.words.now i }
+    {
+        gate_at(self.words, i)
+    }
 }

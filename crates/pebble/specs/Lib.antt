@@ -2,5 +2,4 @@ pub mod Decimal
 pub mod Printed
 pub mod Enough
 pub mod Front
-pub mod Reads
 pub mod Cases

@@ -15,8 +15,8 @@ use Rattle.rules.specs.Flat.{ports_text, vars_text, gate_text, gates_text, flat_
 use Rattle.rules.proofs.Laws.FlatOne.{gate-first}
 use Rattle.write.specs.Put.{Put, put-none, put_then, put_is}
 use Rattle.write.specs.Pieces.{gates-open, gates-close, fine-as, parts, parts-of}
-use Rattle.read.specs.Ahead.{Ahead, room, pass, here, apart}
-use Rattle.read.specs.Loops.{After, mark-pass}
+use Rattle.read.specs.Ahead.{Ahead, pass, look, apart}
+use Rattle.read.specs.Loops.{Passes, mark-pass}
 
 abbrev pub record_of : Gate → List ℕ
 record_of g = g.kind ∷ g.a ∷ g.b ∷ g.c ∷ g.out ∷ []
@@ -39,12 +39,12 @@ stored t i a b c d e =
 -- ---- the loop over the gates
 
 -- the first i gates are read
-pub record Got (t : List ℕ) (p : ℕ) (w v₀ : List ℕ) (i : ℕ) (v : List ℕ) : Type 0 where
+pub record Got (t w v₀ : List ℕ) (i : ℕ) (v : List ℕ) : Type 0 where
   pub most : i ≤ gates w
-  pub left : Ahead t p (gates_text w i (gates w - i) ∷ bytes "END;\n" ∷ [])
+  pub left : Ahead t (gates_text w i (gates w - i) ∷ bytes "END;\n" ∷ [])
   pub put : Put v₀ 4 (body w i) (4 + 5 * i) v
 
-pub got-none : {t w v : List ℕ} {p : ℕ} → Ahead t p (gates_text w 0 (gates w) ∷ bytes "END;\n" ∷ []) → Got t p w v 0 v
+pub got-none : {t w v : List ℕ} → Ahead t (gates_text w 0 (gates w) ∷ bytes "END;\n" ∷ []) → Got t w v 0 v
 unfolding body
 got-none {w} a = let e : gates w - 0 ≡ gates w = omega arith in record { most = omega arith; left = rw e a; put = put-none }
 
@@ -53,41 +53,41 @@ first_byte [] q b e n r f = absurd (n (sym e))
 first_byte (x ∷ t) q b e n r f = (t, ap (λ (y : ℕ). y ∷ t) (sym e) ∙ f)
 
 -- a gate's text does not begin with E
-no-gate : {t : List ℕ} {p : ℕ} {ps : List (List ℕ)} {ws ins : ℕ} (g : Gate) → Fine ws ins g → Ahead t p (gate_text g ∷ ps) → get_or t p 0 ≡ 69 → ⊥
+no-gate : {t : List ℕ} {ps : List (List ℕ)} {ws ins : ℕ} (g : Gate) → Fine ws ins g → Ahead t (gate_text g ∷ ps) → get_or t 0 0 ≡ 69 → ⊥
 unfolding joined
 no-gate {ps} g f a e =
-    let (s, d) = first_byte (gate_text g ++ joined ps) (gate_text g) 69 (sym (here a) ∙ e) (omega arith) (joined ps) refl in
+    let (s, d) = first_byte (gate_text g ++ joined ps) (gate_text g) 69 (sym (look 0 a) ∙ e) (omega arith) (joined ps) refl in
     gate-first g s (joined ps) f d
 
-end-first : {t : List ℕ} {p : ℕ} → Ahead t p (bytes "END;\n" ∷ []) → get_or t p 0 ≡ 69
+end-first : {t : List ℕ} → Ahead t (bytes "END;\n" ∷ []) → get_or t 0 0 ≡ 69
 unfolding joined
-end-first a = here a
+end-first a = look 0 a
 
 line_first : (ps : List (List ℕ)) → get_or (joined (bytes "\n" ∷ ps)) 0 0 ≡ 59 → ⊥
 unfolding joined
 line_first ps e = omega arith
 
 -- what a gate's reader promises
-abbrev pub GateReads : List ℕ → ℕ → Gate → ℕ → Type 0
-GateReads t p g m = (h : Gate) (ps : List (List ℕ)) → Fine 1536 0 h → Ahead t p (gate_text h ∷ ps) → (g ≡ h) × Ahead t m ps
+abbrev pub GateReads : List ℕ → Gate → List ℕ → Type 0
+GateReads t g m = (h : Gate) (ps : List (List ℕ)) → Fine 1536 0 h → Ahead t (gate_text h ∷ ps) → (g ≡ h) × Ahead m ps
 
-module _ {t w v₀ v : List ℕ} {p i : ℕ} (wf : WellFormed w) (got : Got t p w v₀ i v) where
-  pub got-end : get_or t p 0 ≡ 69 → (i ≡ gates w) × Put v₀ 4 (body w i) (4 + 5 * i) v
+module _ {t w v₀ v : List ℕ} {i : ℕ} (wf : WellFormed w) (got : Got t w v₀ i v) where
+  pub got-end : get_or t 0 0 ≡ 69 → (i ≡ gates w) × Put v₀ 4 (body w i) (4 + 5 * i) v
   got-end e = (go (dec_lt i (gates w)), got.put)
     where
       go : Dec (i < gates w) → i ≡ gates w
       go (no h) = omega (arith, got.most)
       go (yes h) = absurd (no-gate (gate_at w i) (wf.fine i h) (apart _ (gates-open w (gates w) i h) got.left) e)
 
-  pub got-full : 1024 ≤ i → (i ≡ gates w) × Put v₀ 4 (body w i) (4 + 5 * i) v
-  got-full h = (omega (arith, got.most, wf.few-gates), got.put)
+  pub got-full : i ≡ 1024 → (1024 ≡ gates w) × Put v₀ 4 (body w 1024) (4 + 5 * 1024) v
+  got-full h = (omega (arith, got.most, wf.few-gates), subst (λ (n : ℕ). Put v₀ 4 (body w n) (4 + 5 * n) v) h got.put)
 
-  pub got-more : {u : List ℕ} {m q r : ℕ} {g : Gate} → (get_or t p 0 ≡ 69 → ⊥) → GateReads t p g m
-      → Put v (4 + 5 * i) (record_of g) (4 + 5 * (i + 1)) u → After t m 59 q → (q + 1 ≤ length t → r ≡ q + 1) → Got t r w v₀ (i + 1) u
+  pub got-more : {u m q r : List ℕ} {g : Gate} → (get_or t 0 0 ≡ 69 → ⊥) → GateReads t g m
+      → Put v (4 + 5 * i) (record_of g) (4 + 5 * (i + 1)) u → Passes m 59 q → r ≡ drop 1 q → Got r w v₀ (i + 1) u
   unfolding body
   got-more {u} {m} {q} {r} {g} z fg fu fq fr = go (dec_lt i (gates w))
     where
-      go : Dec (i < gates w) → Got t r w v₀ (i + 1) u
+      go : Dec (i < gates w) → Got r w v₀ (i + 1) u
       go (no h) = let n : gates w ≤ i = omega arith in absurd (z (end-first (apart [] (gates-close w (gates w) i n) got.left)))
       go (yes h) =
           let a = apart _ (gates-open w (gates w) i h) got.left in
@@ -96,7 +96,7 @@ module _ {t w v₀ v : List ℕ} {p i : ℕ} (wf : WellFormed w) (got : Got t p 
           let f : suc i ≡ i + 1 = omega arith in
           record {
             most = omega arith;
-            left = pass d (fr (room d));
+            left = pass d fr;
             put = subst (λ (k : ℕ). Put v₀ 4 (body w k) (4 + 5 * (i + 1)) u) f (put_then got.put (put_is (ap record_of e) fu));
           }
 
@@ -156,36 +156,35 @@ heads : {a b c d x y z u : ℕ} → a ≡ x → b ≡ y → c ≡ z → d ≡ u 
 heads e f g h = cc
 
 -- what the readers of lists promise
-abbrev pub PortsReads : List ℕ → ℕ → ℕ → ℕ → ℕ → Type 0
-PortsReads t at s k r = (n : ℕ) (ps : List (List ℕ)) → n ≤ 1536 → Ahead t at (ports_text s n ∷ ps) → (k ≡ n) × Ahead t r ps
+abbrev pub PortsReads : List ℕ → ℕ → ℕ → List ℕ → Type 0
+PortsReads t s k r = (n : ℕ) (ps : List (List ℕ)) → n ≤ 1536 → Ahead t (ports_text s n ∷ ps) → (k ≡ n) × Ahead r ps
 
-abbrev pub VarsReads : List ℕ → ℕ → ℕ → ℕ → ℕ → Type 0
-VarsReads t at s k r = (n : ℕ) (ps : List (List ℕ)) → n ≤ 1536 → Ahead t at (vars_text s n ∷ bytes "BEGIN\n" ∷ ps) → (k ≡ n) × Ahead t r (bytes "BEGIN\n" ∷ ps)
+abbrev pub VarsReads : List ℕ → ℕ → ℕ → List ℕ → Type 0
+VarsReads t s k r = (n : ℕ) (ps : List (List ℕ)) → n ≤ 1536 → Ahead t (vars_text s n ∷ bytes "BEGIN\n" ∷ ps) → (k ≡ n) × Ahead r (bytes "BEGIN\n" ∷ ps)
 
-abbrev pub GatesRead : List ℕ → ℕ → List ℕ → ℕ → List ℕ → Type 0
-GatesRead t at v₀ n v = (w : List ℕ) → WellFormed w → Ahead t at (gates_text w 0 (gates w) ∷ bytes "END;\n" ∷ []) → (n ≡ gates w) × Put v₀ 4 (body w n) (4 + 5 * n) v
+abbrev pub GatesRead : List ℕ → List ℕ → ℕ → List ℕ → Type 0
+GatesRead t v₀ n v = (w : List ℕ) → WellFormed w → Ahead t (gates_text w 0 (gates w) ∷ bytes "END;\n" ∷ []) → (n ≡ gates w) × Put v₀ 4 (body w n) (4 + 5 * n) v
 
-ports-to : {t : List ℕ} {p s s' : ℕ} {ps : List (List ℕ)} (n : ℕ) → s ≡ s' → Ahead t p (ports_text s n ∷ ps) → Ahead t p (ports_text s' n ∷ ps)
-ports-to {t} {p} {ps} n e a = subst (λ (s : ℕ). Ahead t p (ports_text s n ∷ ps)) e a
+ports-to : {t : List ℕ} {s s' : ℕ} {ps : List (List ℕ)} (n : ℕ) → s ≡ s' → Ahead t (ports_text s n ∷ ps) → Ahead t (ports_text s' n ∷ ps)
+ports-to {t} {ps} n e a = subst (λ (s : ℕ). Ahead t (ports_text s n ∷ ps)) e a
 
-vars-to : {t : List ℕ} {p s s' : ℕ} {ps : List (List ℕ)} (n : ℕ) → s ≡ s' → Ahead t p (vars_text s n ∷ ps) → Ahead t p (vars_text s' n ∷ ps)
-vars-to {t} {p} {ps} n e a = subst (λ (s : ℕ). Ahead t p (vars_text s n ∷ ps)) e a
+vars-to : {t : List ℕ} {s s' : ℕ} {ps : List (List ℕ)} (n : ℕ) → s ≡ s' → Ahead t (vars_text s n ∷ ps) → Ahead t (vars_text s' n ∷ ps)
+vars-to {t} {ps} n e a = subst (λ (s : ℕ). Ahead t (vars_text s n ∷ ps)) e a
 
-pub guessed : {t v₀ v₁ v₂ : List ℕ} {a ic inx b oc onx vc vnx c n : ℕ} (w : List ℕ) → WellFormed w → t ≡ flat_text w → 5124 ≤ length v₀
-    → (0 + 12 ≤ length t → a ≡ 0 + 12) → PortsReads t a 0 ic inx → (inx + 1 ≤ length t → b ≡ inx + 1) → PortsReads t b ic oc onx
-    → VarsReads t onx (ic + oc) vc vnx → (vnx + 6 ≤ length t → c ≡ vnx + 6)
-    → GatesRead t c v₀ n v₁
+pub guessed : {t v₀ v₁ v₂ a ir b or vr c : List ℕ} {ic oc vc n : ℕ} (w : List ℕ) → WellFormed w → t ≡ flat_text w → 5124 ≤ length v₀
+    → a ≡ drop 12 t → PortsReads a 0 ic ir → b ≡ drop 1 ir → PortsReads b ic oc or → VarsReads or (ic + oc) vc vr → c ≡ drop 6 vr
+    → GatesRead c v₀ n v₁
     → v₂ ≡ sets v₁ 0 (ic ∷ oc ∷ ((ic + oc) + vc) ∷ n ∷ []) → v₂ ≡ sets v₀ 0 (records w)
 unfolding records
-guessed {t} {v₀} {v₁} {v₂} {a} {ic} {inx} {b} {oc} {onx} {vc} {vnx} {c} {n} w wf e len fa fi fb fo fv fc fl fh =
-    let a0 : Ahead t 0 (parts w (inputs w) (outputs w) (wires w) (gates w)) = record { inside = omega arith; rest = e ∙ sym (parts-of w refl refl refl refl) } in
-    let a1 = pass a0 (fa (room a0)) in
+guessed {t} {v₀} {v₁} {v₂} {ic = ic} {oc = oc} {vc = vc} {n = n} w wf e len fa fi fb fo fv fc fl fh =
+    let a0 : Ahead t (parts w (inputs w) (outputs w) (wires w) (gates w)) = record { rest = e ∙ sym (parts-of w refl refl refl refl) } in
+    let a1 = pass a0 fa in
     let (ei, a2) = fi (inputs w) _ (omega (arith, wf.ports, wf.few-wires)) a1 in
-    let a3 = pass a2 (fb (room a2)) in
+    let a3 = pass a2 fb in
     let (eo, a4) = fo (outputs w) _ (omega (arith, wf.ports, wf.few-wires)) (ports-to _ (sym ei) a3) in
     let es : inputs w + outputs w ≡ ic + oc = omega arith in
     let (ev, a5) = fv (wires w - (inputs w + outputs w)) _ (omega (arith, wf.few-wires)) (vars-to _ es a4) in
-    let a6 = pass a5 (fc (room a5)) in
+    let a6 = pass a5 fc in
     let (en, p) = fl w wf a6 in
     let ew : (ic + oc) + vc ≡ wires w = omega (arith, wf.ports) in
     let eh = heads ei eo ew en ∙ sym (four w wf.contents) in
@@ -194,9 +193,3 @@ guessed {t} {v₀} {v₁} {v₂} {a} {ic} {inx} {b} {oc} {onx} {vc} {vnx} {c} {n
     let lb : 4 + length (body w (gates w)) ≤ length v₀ = omega (arith, body-length w (gates w), wf.few-gates) in
     fh ∙ ap (λ (h : List ℕ). sets v₁ 0 h) eh ∙ ap (λ (v : List ℕ). sets v 0 (take 4 w)) (p.text ∙ ap (λ (x : List ℕ). sets v₀ 4 x) eb)
     ∙ over v₀ (take 4 w) (body w (gates w)) l4 lb ∙ ap (λ (x : List ℕ). sets v₀ 0 x) (sym (records_is w (gates w) wf.records))
-
--- ---- for the code
-
-pub stored_at : {i p : ℕ} (t : List ℕ) (g : Gate) → p ≡ i
-    → Put t (4 + 5 * i) (record_of g) (4 + 5 * (i + 1)) (set (set (set (set (set t (4 + 5 * p) g.kind) (4 + 5 * p + 1) g.a) (4 + 5 * p + 2) g.b) (4 + 5 * p + 3) g.c) (4 + 5 * p + 4) g.out)
-stored_at {i} {p} t g e = rw e (stored t i g.kind g.a g.b g.c g.out)

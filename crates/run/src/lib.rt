@@ -2,13 +2,14 @@
 #![tactic(auto)]
 
 ghost use Rattle.std.specs.Prelude.{◌≡◌, ◌↔◌, IsTrue, List, ℕ, ◌≤◌, ◌<◌, length, get_or};
-ghost use Rattle.rules.specs.Netlist.{wires, gates, WellFormed};
+ghost use Rattle.rules.specs.Netlist.{wires, gates};
 ghost use Rattle.rules.specs.Run.{Inputs};
 ghost use Rattle.clear.specs.Zeros.{zeros};
 ghost use Rattle.netlist.specs.Answers.{told, no_text};
 ghost use Rattle.run.specs.Ran.{Ran};
 ghost use Rattle.run.specs.Going.{Pin, Visit, Going, Sweep, First};
 
+use netlist::Netlist;
 use rules::{Gate, Reason};
 
 // The value at slot k, which holds x, of a gate with n inputs; 0 where the kind does not use the slot.
@@ -22,12 +23,11 @@ fn pin(values: &[u8], n: usize, k: usize, x: u16) -> u8
 // Gate j makes its output known where its inputs are; whether it did.
 // The values are the bytes that a run shows: 0 and 1 for bits, 2 for unsettled.
 #[tactic(auto, using(crate::proofs::Waits::waits))]
-fn visit(net: &[u16], values: &mut [u8], j: u16) -> bool
-    requires well_formed { WellFormed net.now }
-    requires in_bounds { (1536 ≤ length values.old) × (j < gates net.now) }
-    ensures { Visit net.now values.old j result values.new }
+fn visit(net: Netlist, values: &mut [u8], j: u16) -> bool
+    requires { (1536 ≤ length values.old) × (j < gates net.words.now) }
+    ensures { Visit net.entry.words.now values.old j result values.new }
 {
-    let g = netlist::gate_at(net, j);
+    let g = net.gate(j);
     let o = usize::from(g.out);
     if values[o] != 2 {
         return false;
@@ -44,35 +44,33 @@ fn visit(net: &[u16], values: &mut [u8], j: u16) -> bool
 }
 
 // Every gate in turn; whether one of them made its output known.
-fn sweep(net: &[u16], values: &mut [u8]) -> bool
-    requires well_formed { WellFormed net.now }
-    requires in_bounds { 1536 ≤ length values.old }
-    ensures { (ins : List ℕ) → Inputs net.now ins → Going net.now ins values.old →
-        Going net.now ins values.new × Sweep net.now values.old (gates net.now) result values.new }
+fn sweep(net: Netlist, values: &mut [u8]) -> bool
+    requires { 1536 ≤ length values.old }
+    ensures { let words = net.entry.words.now in (ins : List ℕ) → Inputs words ins → Going words ins values.old →
+        Going words ins values.new × Sweep words values.old (gates words) result values.new }
 {
     let mut changed = false;
-    for i in 0..netlist::word(net, 3) {
+    for i in 0..net.gates() {
         changed |= visit(net, values, i);
     }
     changed
 }
 
 // One byte, 0 or 1, for each main input.
-fn inputs_fine(net: &[u16], inputs: &[u8]) -> bool
-    ensures { IsTrue result ↔ Inputs net.now inputs.now }
+fn inputs_fine(net: Netlist, inputs: &[u8]) -> bool
+    ensures { IsTrue result ↔ Inputs net.entry.words.now inputs.now }
 {
-    inputs.len() == usize::from(netlist::word(net, 0)) && inputs.iter().all(|b| *b < 2)
+    inputs.len() == usize::from(net.inputs()) && inputs.iter().all(|b| *b < 2)
 }
 
 // The inputs known, the other wires unsettled.
-fn start(net: &[u16], inputs: &[u8], values: &mut [u8])
-    requires well_formed { WellFormed net.now }
-    requires inputs { Inputs net.now inputs.now }
+fn start(net: Netlist, inputs: &[u8], values: &mut [u8])
+    requires inputs { Inputs net.words.now inputs.now }
     requires in_bounds { (1536 ≤ length values.old) × (values.old ≡ zeros (length values.old)) }
-    ensures by_index { (i : ℕ) → i < wires net.now → First inputs.now i (get_or values.new i 0) }
-    ensures by_index_2 { (i : ℕ) → wires net.now ≤ i → get_or values.new i 0 ≡ 0 }
+    ensures by_index { (i : ℕ) → i < wires net.entry.words.now → First inputs.now i (get_or values.new i 0) }
+    ensures by_index_2 { (i : ℕ) → wires net.entry.words.now ≤ i → get_or values.new i 0 ≡ 0 }
 {
-    let wires = usize::from(netlist::word(net, 2));
+    let wires = usize::from(net.wires());
     values[..inputs.len()].copy_from_slice(inputs);
     values[inputs.len()..wires].fill(2);
 }
@@ -85,9 +83,7 @@ pub fn run(net: &[u16], inputs: &[u8], values: &mut [u8]) -> Result<(), Reason>
     if values.len() < 1536 {
         return Err(Reason::ShortBuffer);
     }
-    if !netlist::well_formed(net) {
-        return Err(Reason::NotWellFormed);
-    }
+    let net = Netlist::new(net)?;
     if !inputs_fine(net, inputs) {
         return Err(Reason::WrongInputs);
     }

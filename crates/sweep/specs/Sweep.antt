@@ -246,7 +246,7 @@ Says o scope until (Err e) = o ≡ refuse (number e.reason) e.place
 abbrev pub start : List ℕ → List ℕ → State
 start scope until = record { scope = scope; count = 0; until = until; index = 48; want = 0; blocks = 0 }
 
--- what a sweep over the first `end` words of the tape t leaves, u
-abbrev pub Swept : Out (List ℕ) → ℕ → List ℕ → List ℕ → Result (Unit {0}) Refusal → Type 0
-Swept o end t u (Ok _) = (o ≡ ok (take end u)) × (drop end u ≡ drop end t) × (length u ≡ length t)
-Swept o end t u (Err e) = o ≡ refuse (number e.reason) e.place
+-- what a sweep over all words of a tape leaves, u
+abbrev pub Swept : Out (List ℕ) → List ℕ → Result (Unit {0}) Refusal → Type 0
+Swept o u (Ok _) = o ≡ ok u
+Swept o u (Err e) = o ≡ refuse (number e.reason) e.place

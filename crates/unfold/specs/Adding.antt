@@ -1,5 +1,5 @@
 -- A call of a primitive: one gate more. Assumes nothing.
-use Rattle.std.specs.Prelude.{◌≡◌, ℕ, zero, suc, ◌<◌, List, [], ◌∷◌, ◌++◌, map, length, get_or, replicate, ℤ, T, eqb}
+use Rattle.std.specs.Prelude.{◌≡◌, refl, ℕ, zero, suc, ◌<◌, List, [], ◌∷◌, ◌++◌, map, length, get_or, T, eqb}
 use Rattle.std.proofs.Common.{sym, ap, ◌∙◌, arith, eqb→eq}
 use Rattle.std.proofs.lemmas.List.{length-map}
 use Rattle.rules.specs.Outcome.{Out, ok, refuse, ◌>>=◌}
@@ -12,9 +12,11 @@ use Rattle.rules.proofs.Laws.Outcomes.{both_yes, no_ok}
 use Rattle.rules.proofs.Laws.Same.{Ends as Fitting, ends-yes}
 use Rattle.frames.specs.declared.Frame.{Frame}
 use Rattle.frames.specs.Laid.{column-at}
-use Rattle.frames.specs.Lists.{Drawn, base_r}
+use Rattle.frames.specs.declared.Vector.{Vector}
+use Rattle.frames.specs.Stands.{no_vector}
+use Rattle.frames.specs.Lists.{Drawn, given_of}
 use Rattle.gates.specs.Shows.{Ends}
-use Rattle.unfold.specs.Entering.{WrittenCall, Collected, gathered}
+use Rattle.unfold.specs.Entering.{WrittenCall, Collected, blank, gathered}
 
 -- generics, every subscript, then the gate: 17, 18
 abbrev pub added : ℕ → ℕ → Env → Names Range → List (Exp ℕ) → List (Arg ℕ) → State → Out State
@@ -32,19 +34,27 @@ pub record WrittenGate (t : List ℕ) (at end : ℕ) (f : Frame) (k : ℕ) : Typ
   pub call : WrittenCall t at end f
   pub fits : Fits k call.env call.names (call.inputs ++ call.outputs)
 
+-- the lowest wires of what is given
+abbrev pub base_r : Range → ℕ
+base_r r = r.base
+
+bases : (rs : List Range) (j : ℕ) → (get_or (map given_of rs) j no_vector).base ≡ get_or (map base_r rs) j 0
+bases [] j = refl
+bases (r ∷ rs) zero = refl
+bases (r ∷ rs) (suc j) = bases rs j
+
 out_below : (rs : List Range) (j : ℕ) → j < length rs → Drawn rs → T (singles Wires rs) → get_or (map base_r rs) j 0 < 1536
 unfolding Drawn singles
 out_below [] j h d t = absurd (omega arith)
 out_below (r ∷ rs) zero h d t = omega (arith, d.0, eqb→eq r.len 1 (both_yes (eqb r.len 1) (singles Wires rs) t).0)
 out_below (r ∷ rs) (suc j) h d t = out_below rs j (omega arith) d.1 (both_yes (eqb r.len 1) (singles Wires rs) t).1
 
-module _ {k : ℕ} {ρ : Env} {σ : Names Range} {gs : List (Exp ℕ)} {args : List (Arg ℕ)} {n m : ℕ} {v₀ v : List ℤ} {b l : List ℕ}
-    (c : Collected ρ σ gs args 0 n m v₀ (replicate 48 0) (replicate 48 0) v b l) (f : Fits k ρ σ args) where
+module _ {k : ℕ} {ρ : Env} {σ : Names Range} {gs : List (Exp ℕ)} {args : List (Arg ℕ)} {n m : ℕ} {g : Frame} (c : Collected ρ σ gs args 0 n m blank g) (f : Fits k ρ σ args) where
   fitting : Fitting k c.wires
   fitting = ends-yes k c.wires (f.fits c.wires c.resolves)
 
-  pub gate-ends : Ends b (map base_r c.wires)
-  gate-ends = record { is = λ j h. ap (λ t. get_or t j 0) c.draws.base ∙ column-at 48 0 (map base_r c.wires) j h }
+  pub gate-ends : Ends g.names (map base_r c.wires)
+  gate-ends = record { is = λ j h. ap (λ (t : List Vector). (get_or t j no_vector).base) c.draws.names ∙ ap (λ (v : Vector). v.base) (column-at 48 no_vector (map given_of c.wires) j h) ∙ bases c.wires j }
 
   pub gate-many : inputs_of k < length (map base_r c.wires)
   gate-many = omega (arith, fitting.count, length-map c.wires base_r)

@@ -1,5 +1,5 @@
 -- A call of a block, up to its body: generics, arguments, ports, locals. Assumes nothing.
-use Rattle.std.specs.Prelude.{◌≡◌, refl, ℕ, suc, ◌+◌, ◌≤◌, List, [], ◌∷◌, ◌++◌, map, length, get_or, replicate, ℤ, pos}
+use Rattle.std.specs.Prelude.{◌≡◌, refl, ℕ, suc, ◌+◌, ◌≤◌, List, [], ◌∷◌, ◌++◌, map, length, get_or, replicate, ℤ, pos, Result, Ok, Err}
 use Rattle.std.proofs.Common.{sym, ap, ◌∙◌, subst, arith, length-append}
 use Rattle.std.proofs.lemmas.List.{map-append, length-map, length-replicate}
 use Rattle.rules.specs.Outcome.{Out, ok, refuse, ◌>>=◌}
@@ -11,13 +11,15 @@ use Rattle.rules.proofs.Laws.Outcomes.{no_ok, ok-inj, inv}
 use Rattle.tape.specs.Encoding.{list_w}
 use Rattle.frames.specs.declared.Frame.{Frame}
 use Rattle.frames.specs.declared.Many.{Many}
-use Rattle.frames.specs.declared.Many.TheVariants.{Done, Wrong}
-use Rattle.frames.specs.Laid.{laid, column, column-after, laid-at, laid-length}
-use Rattle.frames.specs.Stands.{Stands, Inside, base_of, len_of, low_of}
-use Rattle.frames.specs.Lists.{value_w, HereValues, HereArgs, Draws, Drawn, Resolves, Gathers, base_r, len_r}
+use Rattle.frames.specs.declared.Vector.{Vector}
+use Rattle.rules.specs.declared.Reason.{Reason}
+use Rattle.rules.specs.declared.Refusal.{Refusal}
+use Rattle.rules.specs.Reasons.{number as number_of}
+use Rattle.frames.specs.Laid.{laid, column, column-after, laid-at, laid-length, laid-over}
+use Rattle.frames.specs.Stands.{Stands, Inside, vector_of, no_vector}
+use Rattle.frames.specs.Lists.{value_w, HereValues, HereArgs, Draws, Drawn, Resolves, Gathers, given_of}
 use Rattle.frames.specs.Ports.{port_w, Offered, tie_all}
 use Rattle.frames.specs.declared.Fresh.{Fresh}
-use Rattle.frames.specs.declared.Fresh.TheVariants.{Done as Ready, Wrong as No}
 use Rattle.frames.specs.Fresh.{Filled, up_to, Declares}
 use Rattle.unfold.specs.Header.{ports, HereBlock, is-ported, ports-end, after_ports, after_generics}
 
@@ -42,18 +44,22 @@ gathered ρ σ gs args = do
   rs ← resolves Wires ρ σ args
   ok (vs, rs)
 
+-- a frame where nothing is filled
+abbrev pub blank : Frame
+blank = record { names = replicate 48 no_vector; values = replicate 48 (pos 0) }
+
 -- all was found and stored, wires from `to` on
-pub record Collected (ρ : Env) (σ : Names Range) (gs : List (Exp ℕ)) (args : List (Arg ℕ)) (to k m : ℕ) (v₀ : List ℤ) (b₀ l₀ : List ℕ) (v : List ℤ) (b l : List ℕ) : Type 0 where
+pub record Collected (ρ : Env) (σ : Names Range) (gs : List (Exp ℕ)) (args : List (Arg ℕ)) (to k m : ℕ) (f₀ f : Frame) : Type 0 where
   pub values : List ℤ
   pub wires : List Range
   pub evals : evals ρ gs ≡ ok values
   pub resolves : resolves Wires ρ σ args ≡ ok wires
-  pub stored : v ≡ laid v₀ 0 (map (λ v. v) values)
-  pub draws : Draws wires m to k m b₀ l₀ b l
+  pub stored : f.values ≡ laid f₀.values 0 (map (λ v. v) values)
+  pub draws : Draws wires m to k m f₀.names f.names
 
-unfoldable pub Collects : Env → Names Range → List (Exp ℕ) → List (Arg ℕ) → ℕ → List ℤ → List ℕ → List ℕ → Many → List ℤ → List ℕ → List ℕ → Type 0
-Collects ρ σ gs args to v₀ b₀ l₀ (Done k m) v b l = Collected ρ σ gs args to k m v₀ b₀ l₀ v b l
-Collects ρ σ gs args to v₀ b₀ l₀ (Wrong k) v b l = gathered ρ σ gs args ≡ refuse k 0
+unfoldable pub Collects : Env → Names Range → List (Exp ℕ) → List (Arg ℕ) → ℕ → Frame → Result Many Reason → Frame → Type 0
+Collects ρ σ gs args to f₀ (Ok r) f = Collected ρ σ gs args to r.filled r.next f₀ f
+Collects ρ σ gs args to f₀ (Err e) f = gathered ρ σ gs args ≡ refuse (number_of e) 0
 
 pub gathered-first : (ρ : Env) (σ : Names Range) (gs : List (Exp ℕ)) (args : List (Arg ℕ)) {k : ℕ} → evals ρ gs ≡ refuse k 0 → gathered ρ σ gs args ≡ refuse k 0
 unfolding ◌>>=◌
@@ -77,28 +83,11 @@ tie-cells ρ (d ∷ ds) (r ∷ rs) e =
     inv _ _ e₂ λ τ eτ e₃.
     rw (← (ok-inj e₃)) (ap (λ l. r ∷ l) (tie-cells ρ ds rs eτ))
 
-bases : (τ : Names Range) → map base_of τ ≡ map base_r (map (λ x. x.cells) τ)
-bases [] = refl
-bases (x ∷ τ) = ap (λ l. base_of x ∷ l) (bases τ)
-
-lens : (τ : Names Range) → map len_of τ ≡ map len_r (map (λ x. x.cells) τ)
-lens [] = refl
-lens (x ∷ τ) = ap (λ l. len_of x ∷ l) (lens τ)
-
-blank-bases : (ns : List Name) → map base_of (blanks Wires ns) ≡ replicate (length ns) 0
+-- places that are not filled yet
+blank-vectors : (ns : List Name) → map vector_of (blanks Wires ns) ≡ replicate (length ns) no_vector
 unfolding blanks
-blank-bases [] = refl
-blank-bases (n ∷ ns) = ap (λ l. 0 ∷ l) (blank-bases ns)
-
-blank-lens : (ns : List Name) → map len_of (blanks Wires ns) ≡ replicate (length ns) 0
-unfolding blanks
-blank-lens [] = refl
-blank-lens (n ∷ ns) = ap (λ l. 0 ∷ l) (blank-lens ns)
-
-blank-lows : (ns : List Name) → map low_of (blanks Wires ns) ≡ replicate (length ns) (pos 0)
-unfolding blanks
-blank-lows [] = refl
-blank-lows (n ∷ ns) = ap (λ l. pos 0 ∷ l) (blank-lows ns)
+blank-vectors [] = refl
+blank-vectors (n ∷ ns) = ap (λ l. no_vector ∷ l) (blank-vectors ns)
 
 pub blank-many : (ns : List Name) → length (blanks Wires ns) ≡ length ns
 unfolding blanks
@@ -121,31 +110,37 @@ tied-column : {A : Type 0} (z : A) (g : Sig Range → A) (ns : List Name) (τ : 
 tied-column z g ns τ xs t p q r =
     r ∙ column-after (length ns) 48 z xs ∙ ap (column 48 z) (sym (map-append g (blanks Wires ns) τ ∙ rw (p, q)))
 
+-- as many names as wires given
+pub tied-many : (ρ : Env) (ds : List (Decl ℕ)) (rs : List Range) {τ : Names Range} → tie Wires ρ ds rs ≡ ok τ → length τ ≡ length rs
+tied-many ρ ds rs {τ} e = sym (length-map τ (λ x. x.cells)) ∙ ap length (tie-cells ρ ds rs e)
+
 -- the frame of a call, once its ports are tied
-pub tied-filled : (ρ : Env) (ns : List Name) (ds : List (Decl ℕ)) (rs : List Range) {τ : Names Range} {k : ℕ} {b l : List ℕ} {o : List ℤ}
-    → tie Wires ρ ds rs ≡ ok τ → Drawn rs → k ≡ length ns + length τ
-    → b ≡ laid (replicate 48 0) (length ns) (map base_r rs) → l ≡ laid (replicate 48 0) (length ns) (map len_r rs) → o ≡ laid (replicate 48 (pos 0)) (length ns) (map low_of τ)
-    → Filled (blanks Wires ns ++ τ) k b l o
-tied-filled ρ ns ds rs {τ} {k} {b} {l} {o} e d c p q r =
-    let cells = tie-cells ρ ds rs e in
+pub tied-filled : (ρ : Env) (ns : List Name) (ds : List (Decl ℕ)) (rs : List Range) {τ : Names Range} {k : ℕ} {vs₀ vs : List Vector}
+    → tie Wires ρ ds rs ≡ ok τ → Drawn rs → k ≡ length ns + length τ → vs₀ ≡ laid (replicate 48 no_vector) (length ns) (map given_of rs) → vs ≡ laid vs₀ (length ns) (map vector_of τ)
+    → Filled (blanks Wires ns ++ τ) k vs
+tied-filled ρ ns ds rs {τ} {k} {vs₀} {vs} e d c p q =
+    let many : length (map given_of rs) ≡ length (map vector_of τ) = length-map rs given_of ∙ sym (tied-many ρ ds rs e) ∙ sym (length-map τ vector_of) in
+    let over : vs ≡ laid (replicate 48 no_vector) (length ns) (map vector_of τ) = q ∙ rw p (laid-over (map given_of rs) (map vector_of τ) (replicate 48 no_vector) (length ns) many) in
     record {
       count = omega (arith, c, length-append (blanks Wires ns) τ, blank-many ns);
-      base = tied-column 0 base_of ns τ (map base_r rs) b (blank-bases ns) (bases τ ∙ ap (map base_r) cells) p;
-      len = tied-column 0 len_of ns τ (map len_r rs) l (blank-lens ns) (lens τ ∙ ap (map len_r) cells) q;
-      low = tied-column (pos 0) low_of ns τ (map low_of τ) o (blank-lows ns) refl r;
-      inside = inside-blanks ns τ (inside-drawn τ rs cells d);
+      names = tied-column no_vector vector_of ns τ (map vector_of τ) vs (blank-vectors ns) refl over;
+      inside = inside-blanks ns τ (inside-drawn τ rs (tie-cells ρ ds rs e) d);
     }
 
 -- the wires given for the ports
-pub given-offered : {t : List ℕ} {at end : ℕ} {B : Block ℕ Callee} (h : HereBlock t at end B) (rs : List Range) (n : length B.inputs + length B.outputs ≡ length rs) {l : List ℕ}
-    → l ≡ laid (replicate 48 0) (length B.generics) (map len_r rs) → Offered (length B.generics) l (ports B.inputs B.outputs rs)
-given-offered {B = B} h rs n {l} e =
+pub given-offered : {t : List ℕ} {at end : ℕ} {B : Block ℕ Callee} (h : HereBlock t at end B) (rs : List Range) (n : length B.inputs + length B.outputs ≡ length rs) {vs : List Vector}
+    → vs ≡ laid (replicate 48 no_vector) (length B.generics) (map given_of rs) → Offered (length B.generics) vs (ports B.inputs B.outputs rs)
+given-offered {B = B} h rs n {vs} e =
     let p = is-ported h rs n in
-    let f : length B.generics + length (map len_r rs) ≤ 48 = omega (arith, h.few, n, length-map rs len_r) in
+    let f : length B.generics + length (map given_of rs) ≤ 48 = omega (arith, h.few, n, length-map rs given_of) in
+    let z = length-replicate 48 no_vector in
     record {
-      full = ap length e ∙ laid-length (map len_r rs) (replicate 48 0) (length B.generics) ∙ length-replicate {A = ℕ} 48 0;
+      full = ap length e ∙ laid-length (map given_of rs) (replicate 48 no_vector) (length B.generics) ∙ z;
       few = omega (arith, p.many, n, h.few);
-      is = λ j b. ap (λ t. get_or t (length B.generics + j) 0) e ∙ laid-at (map len_r rs) (replicate 48 0) (length B.generics) j 0 (omega (arith, length-replicate {A = ℕ} 48 0, p.many, n, h.few)) (omega (arith, p.many, length-map rs len_r)) ∙ ap (λ rs. get_or (map len_r rs) j 0) (sym p.given);
+      is = λ j b.
+          ap (λ t. get_or t (length B.generics + j) no_vector) e
+          ∙ laid-at (map given_of rs) (replicate 48 no_vector) (length B.generics) j no_vector (omega (arith, z, p.many, n, h.few)) (omega (arith, p.many, length-map rs given_of))
+          ∙ ap (λ rs. get_or (map given_of rs) j no_vector) (sym p.given);
     }
 
 abbrev pub entered : Env → Block ℕ Callee → List Range → State → Out (Names Range × State)
@@ -154,23 +149,21 @@ entered ρ B rs s = do
   declare ρ B.locals (blanks Wires B.generics ++ τ) s
 
 -- the wires rs are given for the ports of B
-pub record Offers (B : Block ℕ Callee) (rs : List Range) (b l : List ℕ) (o : List ℤ) : Type 0 where
+pub record Offers (B : Block ℕ Callee) (rs : List Range) (vs : List Vector) : Type 0 where
   pub many : length B.inputs + length B.outputs ≡ length rs
   pub drawn : Drawn rs
-  pub base : b ≡ laid (replicate 48 0) (length B.generics) (map base_r rs)
-  pub len : l ≡ laid (replicate 48 0) (length B.generics) (map len_r rs)
-  pub low : o ≡ replicate 48 (pos 0)
+  pub names : vs ≡ laid (replicate 48 no_vector) (length B.generics) (map given_of rs)
 
-pub record WrittenHeader (t : List ℕ) (at end : ℕ) (b l : List ℕ) (o : List ℤ) : Type 0 where
+pub record WrittenHeader (t : List ℕ) (at end : ℕ) (vs : List Vector) : Type 0 where
   pub block : Block ℕ Callee
   pub wires : List Range
   pub here : HereBlock t at end block
-  pub offers : Offers block wires b l o
+  pub offers : Offers block wires vs
 
 -- the ports are tied and the locals declared
-unfoldable pub Enters : Out (Names Range × State) → State → ℕ → Fresh → List ℕ → List ℕ → List ℤ → Type 0
-Enters o s n (Ready k w m) b l low = (σ : Names Range) × (o ≡ ok (σ, up_to s w)) × (m ≡ n) × (w ≤ 1536) × Filled σ k b l low
-Enters o s n (No q p) b l low = (p : ℕ) × (o ≡ refuse q p)
+unfoldable pub Enters : Out (Names Range × State) → State → ℕ → Result Fresh Reason → List Vector → Type 0
+Enters o s n (Ok r) vs = (σ : Names Range) × (o ≡ ok (σ, up_to s r.wires)) × (r.next ≡ n) × (r.wires ≤ 1536) × Filled σ r.filled vs
+Enters o s n (Err e) vs = (p : ℕ) × (o ≡ refuse (number_of e) p)
 
 module _ (ρ : Env) (B : Block ℕ Callee) (rs : List Range) (s : State) where
   pub enter-first : {k : ℕ} → tie Wires ρ (B.inputs ++ B.outputs) rs ≡ refuse k 0 → entered ρ B rs s ≡ refuse k 0
@@ -186,40 +179,41 @@ pub tie-all : (ρ : Env) {t : List ℕ} {at end : ℕ} {B : Block ℕ Callee} (h
     → tie_all ρ (ports B.inputs B.outputs rs) ≡ tie Wires ρ (B.inputs ++ B.outputs) rs
 tie-all ρ h rs n = let p = is-ported h rs n in rw (p.decls, p.given)
 
-pub collect : (ρ : Env) (σ : Names Range) (gs : List (Exp ℕ)) (args : List (Arg ℕ)) (n to : ℕ) (v₀ : List ℤ) (b₀ l₀ : List ℕ) (r : Many) (v : List ℤ) (b l : List ℕ) (vs : List ℤ)
-    → evals ρ gs ≡ ok vs → v ≡ laid v₀ 0 (map (λ v. v) vs) → Resolves (resolves Wires ρ σ args) n to b₀ l₀ r b l → Collects ρ σ gs args to v₀ b₀ l₀ r v b l
+pub collect : (ρ : Env) (σ : Names Range) (gs : List (Exp ℕ)) (args : List (Arg ℕ)) (n to : ℕ) (f₀ f : Frame) (r : Result Many Reason) (vs : List ℤ)
+    → evals ρ gs ≡ ok vs → f.values ≡ laid f₀.values 0 (map (λ v. v) vs) → Resolves (resolves Wires ρ σ args) n to f₀.names r f.names → Collects ρ σ gs args to f₀ r f
 unfolding Resolves Collects
-collect ρ σ gs args n to v₀ b₀ l₀ (Done k m) v b l vs e s (rs, f, d) = record {
+collect ρ σ gs args n to f₀ f (Ok r) vs e s (rs, g, d) = record {
   values = vs;
   wires = rs;
   evals = e;
-  resolves = f;
+  resolves = g;
   stored = s;
-  draws = record { place = refl; count = d.count; base = d.base; len = d.len; drawn = d.drawn };
+  draws = record { place = refl; count = d.count; names = d.names; drawn = d.drawn };
 }
-collect ρ σ gs args n to v₀ b₀ l₀ (Wrong k) v b l vs e s f = gathered-then ρ σ gs args e f
+collect ρ σ gs args n to f₀ f (Err k) vs e s g = gathered-then ρ σ gs args e g
 
-pub enters : (ρ : Env) (B : Block ℕ Callee) (rs : List Range) (s : State) (n n' : ℕ) (r : Fresh) (b l : List ℕ) (o : List ℤ) {τ : Names Range} → tie Wires ρ (B.inputs ++ B.outputs) rs ≡ ok τ
-    → n ≡ n' → Declares (declare ρ B.locals (blanks Wires B.generics ++ τ) s) s n r b l o → Enters (entered ρ B rs s) s n' r b l o
+-- an answer of which the place is left out
+abbrev pub reason_of : Result Fresh Refusal → Result Fresh Reason
+reason_of (Ok r) = Ok r
+reason_of (Err e) = Err e.reason
+
+pub enters : (ρ : Env) (B : Block ℕ Callee) (rs : List Range) (s : State) (n n' : ℕ) (r : Result Fresh Refusal) (vs : List Vector) {τ : Names Range} → tie Wires ρ (B.inputs ++ B.outputs) rs ≡ ok τ
+    → n ≡ n' → Declares (declare ρ B.locals (blanks Wires B.generics ++ τ) s) s n r vs → Enters (entered ρ B rs s) s n' (reason_of r) vs
 unfolding Declares Enters
-enters ρ B rs s n n' (Ready k w m) b l o e p (σ, f, q, u, g) = (σ, enter-then ρ B rs s e f, q ∙ p, u, g)
-enters ρ B rs s n n' (No q p) b l o e _ f = (p, enter-then ρ B rs s e f)
-
--- as many names as wires given
-pub tied-many : (ρ : Env) (ds : List (Decl ℕ)) (rs : List Range) {τ : Names Range} → tie Wires ρ ds rs ≡ ok τ → length τ ≡ length rs
-tied-many ρ ds rs {τ} e = sym (length-map τ (λ x. x.cells)) ∙ ap length (tie-cells ρ ds rs e)
+enters ρ B rs s n n' (Ok r) vs e p (σ, f, q, u, g) = (σ, enter-then ρ B rs s e f, q ∙ p, u, g)
+enters ρ B rs s n n' (Err r) vs e _ f = (r.place, enter-then ρ B rs s e f)
 
 -- what the code has in hand once the ports are tied
-pub record Locals (ρ : Env) (t : List ℕ) (at end : ℕ) (B : Block ℕ Callee) (rs : List Range) (k m : ℕ) (b l : List ℕ) (o : List ℤ) : Type 0 where
+pub record Locals (ρ : Env) (t : List ℕ) (at end : ℕ) (B : Block ℕ Callee) (rs : List Range) (k m : ℕ) (vs : List Vector) : Type 0 where
   pub names : Names Range
   pub tied : tie Wires ρ (B.inputs ++ B.outputs) rs ≡ ok names
   pub place : m ≡ after_ports at B
   pub few : k ≤ 48
-  pub filled : Filled (blanks Wires B.generics ++ names) k b l o
+  pub filled : Filled (blanks Wires B.generics ++ names) k vs
 
-pub locals_of : (ρ : Env) {t : List ℕ} {at end : ℕ} {B : Block ℕ Callee} {rs : List Range} {b l : List ℕ} {o₀ o : List ℤ} {to k m i : ℕ} (h : HereBlock t at end B) (f : Offers B rs b l o₀)
+pub locals_of : (ρ : Env) {t : List ℕ} {at end : ℕ} {B : Block ℕ Callee} {rs : List Range} {vs₀ vs : List Vector} {to i : ℕ} {r : Many} (h : HereBlock t at end B) (f : Offers B rs vs₀)
     → to ≡ length B.generics → i ≡ after_generics at B
-    → Gathers low_of (tie_all ρ (ports B.inputs B.outputs rs)) (i + length (list_w port_w (ports B.inputs B.outputs rs))) to o₀ (Done k m) o → Locals ρ t at end B rs k m b l o
+    → Gathers vector_of (tie_all ρ (ports B.inputs B.outputs rs)) (i + length (list_w port_w (ports B.inputs B.outputs rs))) to vs₀ (Ok r) vs → Locals ρ t at end B rs r.filled r.next vs
 unfolding Gathers
 locals_of ρ {B = B} {rs = rs} {to = to} h f p q (τ, e, n, c, u) =
     let d = sym (tie-all ρ h rs f.many) ∙ e in
@@ -229,5 +223,5 @@ locals_of ρ {B = B} {rs = rs} {to = to} h f p q (τ, e, n, c, u) =
       tied = d;
       place = n ∙ ap (λ i. i + length (list_w port_w (ports B.inputs B.outputs rs))) q ∙ ports-end h rs f.many;
       few = omega (arith, c, p, y, f.many, h.few);
-      filled = tied-filled ρ B.generics (B.inputs ++ B.outputs) rs d f.drawn (omega (arith, c, p)) f.base f.len (u ∙ rw (p, f.low));
+      filled = tied-filled ρ B.generics (B.inputs ++ B.outputs) rs d f.drawn (omega (arith, c, p)) f.names (u ∙ rw p);
     }

@@ -6,6 +6,7 @@ use native.Mathlib.Omega.{arith}
 use mathlib.Core.List.{List, [], ◌∷◌, ◌++◌, append_assoc}
 use Rattle.std.proofs.Math.ListN.{length-append}
 use Rattle.std.proofs.lemmas.Bool.{lt-leb}
+use Rattle.std.proofs.Common.{lt-ltb, le-ltb, le-leb}
 use Rattle.rules.specs.Syntax.{Name, Decl, Block, Stmts, Callee}
 use Rattle.rules.specs.Unfold.{Range}
 use Rattle.rules.proofs.Laws.Spelt.{All}
@@ -37,6 +38,21 @@ over_below t i end lo hi h = second (ltb i end) (leb lo (kind_of (get_or t i 0))
 pub over-above : (t : List ℕ) (i end lo hi : ℕ) → hi < kind_of (get_or t i 0) → among_of t i end lo hi ≡ false
 unfolding among_of
 over-above t i end lo hi h = third (ltb i end) (leb lo (kind_of (get_or t i 0))) _ (lt-leb (kind_of (get_or t i 0)) hi h)
+
+pub over-other : (t : List ℕ) (i end k : ℕ) → (kind_of (get_or t i 0) ≡ k → ⊥) → among_of t i end k k ≡ false
+over-other t i end k h = go (native.Mathlib.Decide.dec_lt (kind_of (get_or t i 0)) k)
+  where
+    go : Dec (kind_of (get_or t i 0) < k) → among_of t i end k k ≡ false
+    go (yes l) = over_below t i end k k l
+    go (no l) = over-above t i end k k (omega (arith, l, h))
+
+pub over-end : (t : List ℕ) (end lo hi : ℕ) → among_of t end end lo hi ≡ false
+unfolding among_of
+over-end t end lo hi = rw (le-ltb end end (omega arith))
+
+pub is_among : (t : List ℕ) (i last k : ℕ) → i < last → kind_of (get_or t i 0) ≡ k → among_of t i last k k ≡ true
+unfolding among_of
+is_among t i last k h e = rw (lt-ltb i last h, e, le-leb k k (omega arith))
 
 module _ {A : Type 0} (t : List ℕ) (w : A → List ℕ) (Item : A → Type 0) (k : ℕ) (kinds : (x : A) (i : ℕ) → Item x → Lies t i (w x) → kind_of (get_or t i 0) ≡ k) where
   -- the next word is one of the list, or the first after it

@@ -14,7 +14,7 @@ use Rattle.tape.specs.Resolved.{slot_w, meant_w}
 use Rattle.tape.specs.Lies.{Lies, lies-first, lies-rest, lies-left, lies-right}
 use Rattle.values.specs.Factors.{grouped}
 use Rattle.values.specs.Sizes.{stops_first, stops-kind}
-use Rattle.values.specs.Loops.{HereTwo}
+use Rattle.values.specs.Pairs.{HereTwo}
 use Rattle.unfold.specs.Header.{body_w}
 use Rattle.unfold.specs.Statements.{HereStmts, Stop, after_call, call-rest, call-sound, from-values, after-args, meant-below}
 use Rattle.unfold.specs.Quiet.{Calm, Loud, soft, quiet-append, quiet-exp, quiet-values, quiet-args}

@@ -1,6 +1,6 @@
 -- One statement: what its first word tells, and where the next begins. Assumes nothing.
 use Rattle.std.specs.Prelude.{◌≡◌, ℕ, ◌+◌, ◌-◌, ◌/◌, ◌%◌, ◌≤◌, ◌<◌, Bool, List, ◌∷◌, ◌++◌, ◌⊎◌, get_or}
-use Rattle.std.proofs.Common.{sym, ◌∙◌, arith, inl, lt-ltb}
+use Rattle.std.proofs.Common.{sym, ◌∙◌, arith, inl}
 use Rattle.std.proofs.Math.Path.{ap, subst}
 use Rattle.std.proofs.Math.Bool.{true, false}
 use Rattle.std.proofs.Math.ListN.{length, length-append}
@@ -13,8 +13,10 @@ use Rattle.tape.specs.Resolved.{slot_w, meant_w, callee_number}
 use Rattle.tape.specs.Lies.{lies-first}
 use Rattle.frames.specs.Rows.{among_of}
 use Rattle.unfold.specs.declared.Head.{Head}
-use Rattle.unfold.specs.declared.Head.TheVariants.{Gate, Block, Loop}
+use Rattle.unfold.specs.declared.What.{What}
+use Rattle.unfold.specs.declared.What.TheVariants.{Gate, Block, Loop}
 use Rattle.unfold.specs.Statements.{HereStmts, stop-over, call-rest, after-args, meant-below}
+use Rattle.unfold.specs.Header.{is_among}
 use Rattle.unfold.specs.Quiet.{Calm, WrittenCalm}
 use Rattle.unfold.specs.Loops.{body_at, loop-ends, body-kind, loop-many, loop-index, loop-place, loop-rest, loop-calm, parts_w, call-word, call-calm, call-after}
 
@@ -49,9 +51,8 @@ record Parts (len : ℕ) (t : List ℕ) (at last : ℕ) (c : Stmts ℕ Callee) :
 unlike : {A : Type 0} {b : Bool} → b ≡ true → b ≡ false → A
 unlike e f = let z : ◌≡◌ {A = Bool} true false = sym e ∙ f in let w : ◌≡◌ {A = ℕ} 0 1 = cc in absurd (omega arith)
 
-is_among : (t : List ℕ) (i last : ℕ) → i < last → kind_of (get_or t i 0) ≡ 8 → among_of t i last 8 8 ≡ true
-unfolding among_of
-is_among t i last h e = rw (lt-ltb i last h, e)
+is-body : (t : List ℕ) (i last : ℕ) → i < last → kind_of (get_or t i 0) ≡ 8 → among_of t i last 8 8 ≡ true
+is-body t i last h e = is_among t i last 8 h e
 
 module _ (len : ℕ) {t : List ℕ} {at last : ℕ} where
   call-parts : (p : ℕ) (c : Callee) (gs : List (Exp ℕ)) (ins outs : List (Arg ℕ)) (rest : Stmts ℕ Callee) → HereStmts len t at last (call p c gs ins outs rest) → Parts len t at last (call p c gs ins outs rest)
@@ -73,7 +74,7 @@ module _ (len : ℕ) {t : List ℕ} {at last : ℕ} where
       let n = length-append (exp_w slot_w 0 a) (exp_w slot_w 0 b) in
       let e : at + 1 + length (pack 7 0 i ∷ (exp_w slot_w 0 a ++ exp_w slot_w 0 b)) ≡ body_at len h = omega (arith, n) in
       let x = loop-ends len h in
-      let o : among_of t (body_at len h) last 8 8 ≡ true = is_among t _ last (omega (arith, x)) (body-kind len h) in
+      let o : among_of t (body_at len h) last 8 8 ≡ true = is-body t _ last (omega (arith, x)) (body-kind len h) in
       record {
         words = pack 7 0 i ∷ (exp_w slot_w 0 a ++ exp_w slot_w 0 b);
         calm = loop-calm len h;
@@ -119,10 +120,14 @@ pub record IsLoop (i p : ℕ) (c : Stmts ℕ Callee) : Type 0 where
   pub rest : Stmts ℕ Callee
   pub is : c ≡ loop p i first second body rest
 
-unfoldable pub Heads : Stmts ℕ Callee → Head → Type 0
-Heads c (Gate k p) = (k < 10) × IsCall (gate k) p c
-Heads c (Block b p) = (b < 64) × IsCall (block b) p c
-Heads c (Loop i p) = (i < 48) × IsLoop i p c
+-- what a statement is, whose place is p
+unfoldable pub IsWhat : Stmts ℕ Callee → ℕ → What → Type 0
+IsWhat c p (Gate k) = (k < 10) × IsCall (gate k) p c
+IsWhat c p (Block b) = (b < 64) × IsCall (block b) p c
+IsWhat c p (Loop i) = (i < 48) × IsLoop i p c
+
+abbrev pub Heads : Stmts ℕ Callee → Head → Type 0
+Heads c h = IsWhat c h.place h.what
 
 module _ (len : ℕ) where
   number_of : (p : ℕ) (c : Callee) → CalleeOf len p c → (callee_number c < 128) × ((v : ℕ) → v ≡ meant_w p c → (v % 128 ≡ callee_number c) × (v / 128 ≡ p))
@@ -130,13 +135,13 @@ module _ (len : ℕ) where
   number_of p (gate k) q = (omega (arith, q.1), λ v e. (omega (arith, e, q.1), omega (arith, e, q.1)))
   number_of p (block b) q = (omega (arith, q.1), λ v e. (omega (arith, e, q.1), omega (arith, e, q.1)))
 
-  by-gate : (p : ℕ) (c : Callee) (gs : List (Exp ℕ)) (ins outs : List (Arg ℕ)) (rest : Stmts ℕ Callee) (k q : ℕ) → CalleeOf len p c → k ≡ callee_number c → q ≡ p → k < 10 → Heads (call p c gs ins outs rest) (Gate k q)
-  unfolding Heads callee_number CalleeOf
+  by-gate : (p : ℕ) (c : Callee) (gs : List (Exp ℕ)) (ins outs : List (Arg ℕ)) (rest : Stmts ℕ Callee) (k q : ℕ) → CalleeOf len p c → k ≡ callee_number c → q ≡ p → k < 10 → IsWhat (call p c gs ins outs rest) q (Gate k)
+  unfolding IsWhat callee_number CalleeOf
   by-gate p (gate k) gs ins outs rest m q s e f l = (l, record { generics = gs; inputs = ins; outputs = outs; rest = rest; is = rw (e, f) })
   by-gate p (block b) gs ins outs rest m q s e f l = absurd (omega (arith, e))
 
-  by-block : (p : ℕ) (c : Callee) (gs : List (Exp ℕ)) (ins outs : List (Arg ℕ)) (rest : Stmts ℕ Callee) (b q : ℕ) → CalleeOf len p c → 10 + b ≡ callee_number c → q ≡ p → Heads (call p c gs ins outs rest) (Block b q)
-  unfolding Heads callee_number CalleeOf
+  by-block : (p : ℕ) (c : Callee) (gs : List (Exp ℕ)) (ins outs : List (Arg ℕ)) (rest : Stmts ℕ Callee) (b q : ℕ) → CalleeOf len p c → 10 + b ≡ callee_number c → q ≡ p → IsWhat (call p c gs ins outs rest) q (Block b)
+  unfolding IsWhat callee_number CalleeOf
   by-block p (gate k) gs ins outs rest m q s e f = absurd (omega (arith, e, s.1))
   by-block p (block b) gs ins outs rest m q s e f = let x : m ≡ b = omega (arith, e) in (omega (arith, x, s.1), record { generics = gs; inputs = ins; outputs = outs; rest = rest; is = rw (x, f) })
 
@@ -149,8 +154,8 @@ module _ (len : ℕ) {t : List ℕ} {at last : ℕ} where
   unfolding stmts_w AllStmts
   loop-kind p i a b body rest h = ap kind_of (lies-first h.lies) ∙ kind-of 6 0 p (omega arith) (omega (arith, h.sound.0, h.text))
 
-  pub head-loop : (c : Stmts ℕ Callee) → HereStmts len t at last c → at < last → kind_of (get_or t at 0) ≡ 6 → Heads c (Loop (value_of (get_or t (at + 1) 0)) (value_of (get_or t at 0)))
-  unfolding stmts_w Heads
+  pub head-loop : (c : Stmts ℕ Callee) → HereStmts len t at last c → at < last → kind_of (get_or t at 0) ≡ 6 → IsWhat c (value_of (get_or t at 0)) (Loop (value_of (get_or t (at + 1) 0)))
+  unfolding stmts_w IsWhat
   head-loop end h s k = absurd (omega (arith, h.ends))
   head-loop (call p c gs ins outs rest) h s k = absurd (omega (arith, k, call-kind p c gs ins outs rest h))
   head-loop (loop p i a b body rest) h s k =
@@ -164,13 +169,13 @@ module _ (len : ℕ) {t : List ℕ} {at last : ℕ} where
   index-room (call p c gs ins outs rest) h s k = absurd (omega (arith, k, call-kind p c gs ins outs rest h))
   index-room (loop p i a b body rest) h s k = omega (arith, loop-ends len h, h.limit)
 
-  pub head-gate : (c : Stmts ℕ Callee) → HereStmts len t at last c → at < last → (kind_of (get_or t at 0) ≡ 6 → ⊥) → value_of (get_or t at 0) % 128 < 10 → Heads c (Gate (value_of (get_or t at 0) % 128) (value_of (get_or t at 0) / 128))
+  pub head-gate : (c : Stmts ℕ Callee) → HereStmts len t at last c → at < last → (kind_of (get_or t at 0) ≡ 6 → ⊥) → value_of (get_or t at 0) % 128 < 10 → IsWhat c (value_of (get_or t at 0) / 128) (Gate (value_of (get_or t at 0) % 128))
   unfolding stmts_w AllStmts
   head-gate end h s k l = absurd (omega (arith, h.ends))
   head-gate (call p c gs ins outs rest) h s k l = let e = (number_of len p c h.sound.0).1 _ (call-word len h) in by-gate len p c gs ins outs rest _ _ h.sound.0 e.0 e.1 l
   head-gate (loop p i a b body rest) h s k l = absurd (k (loop-kind p i a b body rest h))
 
-  pub head-block : (c : Stmts ℕ Callee) → HereStmts len t at last c → at < last → (kind_of (get_or t at 0) ≡ 6 → ⊥) → 10 ≤ value_of (get_or t at 0) % 128 → Heads c (Block (value_of (get_or t at 0) % 128 - 10) (value_of (get_or t at 0) / 128))
+  pub head-block : (c : Stmts ℕ Callee) → HereStmts len t at last c → at < last → (kind_of (get_or t at 0) ≡ 6 → ⊥) → 10 ≤ value_of (get_or t at 0) % 128 → IsWhat c (value_of (get_or t at 0) / 128) (Block (value_of (get_or t at 0) % 128 - 10))
   unfolding stmts_w AllStmts
   head-block end h s k l = absurd (omega (arith, h.ends))
   head-block (call p c gs ins outs rest) h s k l = let e = (number_of len p c h.sound.0).1 _ (call-word len h) in by-block len p c gs ins outs rest _ _ h.sound.0 (omega (arith, e.0, l)) e.1

@@ -1,5 +1,5 @@
 -- A call of a block: the frame of its body. Assumes nothing.
-use Rattle.std.specs.Prelude.{◌≡◌, refl, ℕ, suc, ◌+◌, ◌≤◌, List, [], ◌∷◌, ◌++◌, map, length, replicate, ℤ, pos}
+use Rattle.std.specs.Prelude.{◌≡◌, refl, ℕ, suc, ◌+◌, ◌≤◌, List, [], ◌∷◌, ◌++◌, map, length, replicate, ℤ, pos, Result, Ok, Err}
 use Rattle.std.proofs.Common.{sym, ap, ◌∙◌, arith, length-append}
 use Rattle.rules.specs.Outcome.{Out, ok, refuse, ◌>>=◌}
 use Rattle.rules.specs.Syntax.{Exp, Arg, Decl, Block, Callee}
@@ -11,10 +11,11 @@ use Rattle.frames.specs.declared.Frame.{Frame}
 use Rattle.frames.specs.Laid.{laid, column, column-length}
 use Rattle.frames.specs.Stands.{Stands, Knows, knows-generics}
 use Rattle.frames.specs.Fresh.{Filled, up_to}
-use Rattle.unfold.specs.declared.Entry.{Entry}
-use Rattle.unfold.specs.declared.Entry.TheVariants.{Body, Wrong}
+use Rattle.unfold.specs.declared.Opened.{Opened}
+use Rattle.rules.specs.declared.Reason.{Reason}
+use Rattle.rules.specs.Reasons.{number as number_of}
 use Rattle.unfold.specs.Header.{HereBlock, after_locals, body_w}
-use Rattle.unfold.specs.Entering.{WrittenCall, gathered, entered, Offers, Collected, tied-many, blank-many}
+use Rattle.unfold.specs.Entering.{WrittenCall, gathered, entered, Offers, Collected, blank, tied-many, blank-many}
 
 -- ---- how many there are
 
@@ -43,19 +44,17 @@ same : {A : Type 0} (xs : List A) → map (λ x. x) xs ≡ xs
 same [] = refl
 same (x ∷ xs) = ap (λ l. x ∷ l) (same xs)
 
-pub frame-stands : {t : List ℕ} {place end : ℕ} {B : Block ℕ Callee} → HereBlock t place end B → (vs : List ℤ) (rs : List Range) (s : State) {σ : Names Range} {w k : ℕ} {v : List ℤ} {b l : List ℕ} {o : List ℤ}
-    → length B.inputs + length B.outputs ≡ length rs → entered (generics vs) B rs s ≡ ok (σ, up_to s w) → v ≡ laid (replicate 48 (pos 0)) 0 (map (λ v. v) vs) → Filled σ k b l o
-    → Stands (record { base = b; len = l; low = o; value = v }) (generics vs) σ
-frame-stands {B = B} h vs rs s {v = v} n e u f =
-    let c : v ≡ column 48 (pos 0) vs = u ∙ ap (column 48 (pos 0)) (same vs) in
+pub frame-stands : {t : List ℕ} {place end : ℕ} {B : Block ℕ Callee} → HereBlock t place end B → (vs : List ℤ) (rs : List Range) (s : State) {σ : Names Range} {w k : ℕ} {f : Frame}
+    → length B.inputs + length B.outputs ≡ length rs → entered (generics vs) B rs s ≡ ok (σ, up_to s w) → f.values ≡ laid (replicate 48 (pos 0)) 0 (map (λ v. v) vs) → Filled σ k f.names
+    → Stands f (generics vs) σ
+frame-stands {B = B} h vs rs s {f = f} n e u g =
+    let c : f.values ≡ column 48 (pos 0) vs = u ∙ ap (column 48 (pos 0)) (same vs) in
     record {
       value = rw c (knows-generics vs);
       full = ap length c ∙ column-length 48 (pos 0) vs;
-      base = f.base;
-      len = f.len;
-      low = f.low;
+      names = g.names;
       few = omega (arith, entered-many (generics vs) B rs s e, n, h.few);
-      inside = f.inside;
+      inside = g.inside;
     }
 
 -- ---- the whole call, up to the body
@@ -76,9 +75,9 @@ pub record Open (ρ : Env) (σ : Names Range) (gs : List (Exp ℕ)) (args : List
   pub first : b ≡ after_locals place B + 1
   pub last : e ≡ b + length (body_w B.body)
 
-unfoldable pub Opens : Env → Names Range → List (Exp ℕ) → List (Arg ℕ) → Block ℕ Callee → State → ℕ → Entry → Frame → Type 0
-Opens ρ σ gs args B s place (Body b e w) f = Open ρ σ gs args B s place b e w f
-Opens ρ σ gs args B s place (Wrong k) f = (p : ℕ) × (opened ρ σ gs args B s ≡ refuse k p)
+unfoldable pub Opens : Env → Names Range → List (Exp ℕ) → List (Arg ℕ) → Block ℕ Callee → State → ℕ → Result Opened Reason → Type 0
+Opens ρ σ gs args B s place (Ok r) = Open ρ σ gs args B s place r.body.at r.body.end r.wires r.frame
+Opens ρ σ gs args B s place (Err e) = (p : ℕ) × (opened ρ σ gs args B s ≡ refuse (number_of e) p)
 
 again : {A B : Type 0} {n p k : ℕ} → ◌≡◌ {A = Out A} (refuse n p) (refuse k 0) → ◌≡◌ {A = Out B} (refuse n p) (refuse k 0)
 again {A} {B} {n} {p} {k} e = let q : n ≡ k = cc in let r : p ≡ 0 = cc in rw (q, r)
@@ -115,14 +114,12 @@ pub record WrittenOpen (t : List ℕ) (at end place last : ℕ) (f : Frame) : Ty
   pub many : length block.inputs + length block.outputs ≡ length (call.inputs ++ call.outputs)
 
 -- the wires that were found are offered to the ports
-pub offers-of : {ρ : Env} {σ : Names Range} {gs : List (Exp ℕ)} {args : List (Arg ℕ)} {to k m : ℕ} {v₀ v : List ℤ} {b l : List ℕ} (B : Block ℕ Callee)
-    (c : Collected ρ σ gs args to k m v₀ (replicate 48 0) (replicate 48 0) v b l) → to ≡ length B.generics → length B.inputs + length B.outputs ≡ length args → Offers B c.wires b l (replicate 48 (pos 0))
+pub offers-of : {ρ : Env} {σ : Names Range} {gs : List (Exp ℕ)} {args : List (Arg ℕ)} {to k m : ℕ} {f : Frame} (B : Block ℕ Callee)
+    (c : Collected ρ σ gs args to k m blank f) → to ≡ length B.generics → length B.inputs + length B.outputs ≡ length args → Offers B c.wires f.names
 offers-of {ρ} {σ} {args = args} B c p n = record {
   many = n ∙ sym (resolves-many ρ σ args c.resolves);
   drawn = c.draws.drawn;
-  base = c.draws.base ∙ rw p;
-  len = c.draws.len ∙ rw p;
-  low = refl;
+  names = c.draws.names ∙ rw p;
 }
 
 -- the values that were stored are the generics

@@ -1,6 +1,7 @@
 -- The words of a statement's own parts: none of them begins a statement or a body. Assumes nothing.
-use Rattle.std.specs.Prelude.{◌≡◌, refl, ℕ, suc, ◌+◌, ◌≤◌, ◌<◌, List, [], ◌∷◌, ◌++◌, ◌⊎◌, length, get_or}
-use Rattle.std.proofs.Common.{sym, ap, ◌∙◌, subst, arith, inl, inr, length-append}
+use Rattle.std.specs.Prelude.{◌≡◌, refl, ℕ, suc, ◌+◌, ◌≤◌, ◌<◌, List, [], ◌∷◌, ◌++◌, ◌⊎◌, length, get_or, Bool, true, false, ◌||◌, eqb}
+use Rattle.std.proofs.Common.{sym, ap, ◌∙◌, subst, arith, inl, inr, length-append, eqb-true}
+use Rattle.std.proofs.lemmas.Bool.Decides.{nat_tests}
 use Rattle.rules.specs.Syntax.{Exp, number, name, neg, group, both, Arg, whole, part}
 use Rattle.rules.proofs.Laws.Spelt.{All, AllExp, AllArg}
 use Rattle.tape.specs.Layout.{pack, kind_of, kind-of, flip, head_of}
@@ -17,8 +18,25 @@ use Rattle.unfold.specs.Statements.{Stop}
 abbrev pub Loud : ℕ → Type 0
 Loud k = (k ≡ 3) ⊎ ((k ≡ 6) ⊎ (k ≡ 8))
 
+abbrev pub is_loud : ℕ → Bool
+is_loud k = eqb k 3 || (eqb k 6 || eqb k 8)
+
+pub loud-is : (k : ℕ) → is_loud k ≡ true → Loud k
+loud-is k e = go (eqb k 3) (eqb k 6) refl refl e
+  where
+    go : (a b : Bool) → eqb k 3 ≡ a → eqb k 6 ≡ b → (a || (b || eqb k 8)) ≡ true → Loud k
+    go true b p q e = inl (eqb-true k 3 p)
+    go false true p q e = inr (inl (eqb-true k 6 q))
+    go false false p q e = inr (inr (eqb-true k 8 e))
+
 abbrev pub Soft : ℕ → Type 0
 Soft w = (kind_of w ≡ 3 → ⊥) × (kind_of w ≡ 6 → ⊥) × (kind_of w ≡ 8 → ⊥)
+
+pub soft-is : (w : ℕ) → is_loud (kind_of w) ≡ false → Soft w
+soft-is w e = ((λ q. loud-not (kind_of w) (inl q) e), (λ q. loud-not (kind_of w) (inr (inl q)) e), (λ q. loud-not (kind_of w) (inr (inr q)) e))
+  where
+    loud-not : (k : ℕ) → Loud k → is_loud k ≡ false → ⊥
+    loud-not k l e = grind (arith, nat_tests)
 
 abbrev pub Quiet : List ℕ → Type 0
 Quiet ws = All Soft ws

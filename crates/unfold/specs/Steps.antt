@@ -7,7 +7,7 @@ use Rattle.rules.specs.Values.{Env, generics, bound, eval, evals, rounds}
 use Rattle.rules.specs.Frames.{Frame as Names, blanks, resolves, tie, ends}
 use Rattle.rules.specs.Unfold.{Range, Wires, State, Act, tick, declare, emit, gate_on, add_gate, act, turns, unfolds, enter}
 use Rattle.rules.proofs.Laws.Outcomes.{no_ok, ok-inj, inv}
-use Rattle.values.specs.Loops.{both-bounds}
+use Rattle.values.specs.Pairs.{both-bounds}
 use Rattle.unfold.specs.Entering.{entered}
 use Rattle.unfold.specs.Opening.{opened}
 use Rattle.unfold.specs.Adding.{added}

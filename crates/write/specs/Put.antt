@@ -1,6 +1,7 @@
 -- Writing pieces one after the other into lent memory. Assumes nothing.
-use Rattle.std.specs.Prelude.{◌≡◌, refl, List, [], ◌∷◌, ◌++◌, ℕ, suc, ◌+◌, set, length}
-use Rattle.std.proofs.Common.{sym, ap, subst, ◌∙◌, append_assoc, arith, length-append}
+use Rattle.std.specs.Prelude.{◌≡◌, refl, List, [], ◌∷◌, ◌++◌, ℕ, suc, ◌+◌, ◌≤◌, set, length, take, drop}
+use Rattle.std.proofs.Common.{sym, ap, subst, ◌∙◌, append_assoc, drop-drop, arith, length-append}
+use Rattle.std.proofs.lemmas.List.Edits.{sets-eq}
 use lib.Seq.{sets, length-sets}
 use Rattle.rules.specs.Text.{joined}
 
@@ -36,3 +37,7 @@ joined-append (p ∷ ps) qs = ap (λ (l : List ℕ). p ++ l) (joined-append ps q
 
 pub put_is : {t u p q : List ℕ} {at r : ℕ} → p ≡ q → Put t at p r u → Put t at q r u
 put_is {t} {u} {at} {r} e a = subst (λ (p : List ℕ). Put t at p r u) e a
+
+-- a part of t that was copied over
+pub copied : (t s : List ℕ) (at k : ℕ) {ys : List ℕ} → at + length s ≤ length t → ys ≡ s → k ≡ length s → take at t ++ (ys ++ drop k (drop at t)) ≡ sets t at s
+copied t s at k h e f = rw (e, f, drop-drop (length s) at t, sets-eq s t at h) (sym (append_assoc (take at t) s (drop (at + length s) t)))

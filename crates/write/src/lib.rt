@@ -2,13 +2,13 @@
 #![tactic(auto)]
 
 ghost use Rattle.std.specs.Prelude.{◌+◌, ◌<◌, ◌≤◌, length, MatchOption};
-ghost use Rattle.rules.specs.Netlist.{WellFormed};
 ghost use Rattle.rules.specs.Flat.{flat_text};
 ghost use Rattle.netlist.specs.Answers.{told, its_length};
 ghost use Rattle.write.specs.Put.{Put};
 ghost use Rattle.write.specs.Memory.{Writes, full, memory_laws};
 ghost use Rattle.write.specs.Wrote.{Wrote};
 
+use netlist::Netlist;
 use rules::Reason;
 
 pub mod pieces;
@@ -50,10 +50,9 @@ impl Pieces for Memory<'_> {
     }
 }
 
-// The whole text of a well-formed netlist, if there is room: its length.
-fn put_text(net: &[u16], text: &mut [u8]) -> Option<usize>
-    requires { WellFormed net.now }
-    ensures { MatchOption result (length text.old < length (flat_text net.now)) (λ n. Put text.old 0 (flat_text net.now) n text.new) }
+// The whole text of a netlist, if there is room: its length.
+fn put_text(net: Netlist, text: &mut [u8]) -> Option<usize>
+    ensures { let flat = flat_text net.entry.words.now in MatchOption result (length text.old < length flat) (λ n. Put text.old 0 flat n text.new) }
 {
     let mut memory = Memory { text, at: 0 };
     pieces::text(net, &mut memory)?;
@@ -68,9 +67,7 @@ pub fn write(net: &[u16], text: &mut [u8]) -> Result<usize, Reason>
     if text.len() < 65536 {
         return Err(Reason::ShortBuffer);
     }
-    if !netlist::well_formed(net) {
-        return Err(Reason::NotWellFormed);
-    }
+    let net = Netlist::new(net)?;
     // Every text fits, so this one is written.
     put_text(net, text).ok_or(Reason::ShortBuffer)
 }

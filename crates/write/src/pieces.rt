@@ -1,11 +1,12 @@
 // The flat text of a netlist, piece by piece, to whatever takes the pieces: memory that they are written to, or a text that they are compared with.
 ghost use Rattle.std.specs.Prelude.{List, ℕ, ◌+◌, ◌<◌};
-ghost use Rattle.rules.specs.Netlist.{gates, inputs_at, WellFormed};
+ghost use Rattle.rules.specs.Netlist.{gates, inputs_at};
 ghost use Rattle.rules.specs.Text.{joined};
 ghost use Rattle.rules.specs.Flat.{between, wire_text, entry_text, ports_text, vars_text, wires_text, gate_text, gates_text, flat_text};
 ghost use Rattle.write.specs.Pieces.{call_of, slot_text};
 ghost use Rattle.write.specs.Taken.{Taken, Laws};
 
+use netlist::Netlist;
 use rules::Gate;
 
 // What takes pieces one after another, until it refuses one.
@@ -111,31 +112,30 @@ fn gate<P: Pieces>(to: &mut P, g: Gate) -> Option<()>
 }
 
 // One gate a line, each but the last with a semicolon.
-fn gates<P: Pieces>(net: &[u16], to: &mut P) -> Option<()>
-    ensures { Taken P.takes P.refuses to.old (gates_text net.now 0 (gates net.now)) result to.new }
+fn gates<P: Pieces>(net: Netlist, to: &mut P) -> Option<()>
+    ensures { let words = net.entry.words.now in Taken P.takes P.refuses to.old (gates_text words 0 (gates words)) result to.new }
 {
-    let n = netlist::word(net, 3);
+    let n = net.gates();
     for i in 0..n {
-        gate(to, netlist::gate_at(net, i))?;
+        gate(to, net.gate(i))?;
         mark(to, b";", n - (i + 1))?;
         to.piece(b"\n")?;
     }
     Some(())
 }
 
-// The whole text of a well-formed netlist.
-pub fn text<P: Pieces>(net: &[u16], to: &mut P) -> Option<()>
-    requires { WellFormed net.now }
-    ensures { Taken P.takes P.refuses to.old (flat_text net.now) result to.new }
+// The whole text of a netlist.
+pub fn text<P: Pieces>(net: Netlist, to: &mut P) -> Option<()>
+    ensures { Taken P.takes P.refuses to.old (flat_text net.entry.words.now) result to.new }
 {
-    let inputs = netlist::word(net, 0);
-    let outputs = netlist::word(net, 1);
-    let wires = netlist::word(net, 2);
+    let inputs = net.inputs();
+    let outputs = net.outputs();
+    let others = net.wires() - (inputs + outputs);
     to.piece(b"BLOCK main\n[")?;
     ports(to, 0, inputs)?;
     to.piece(b"[")?;
     ports(to, inputs, outputs)?;
-    vars(to, inputs + outputs, wires - (inputs + outputs))?;
+    vars(to, inputs + outputs, others)?;
     to.piece(b"BEGIN\n")?;
     gates(net, to)?;
     to.piece(b"END;\n")

@@ -1,11 +1,14 @@
-use Rattle.sweep.proofs.Laws.Steps.{call-no, call_fits, call-bars}
+use Rattle.std.proofs.Common.{◌∙◌}
+use Rattle.headings.specs.Callee.{wanted-is}
+use Rattle.std.proofs.lemmas.Result.{err_from_is_err_and}
+use Rattle.sweep.proofs.Laws.Steps.{call-unknown, call-bars, call-fits}
 use Rattle.names.proofs.as_callee.Goals as goal
 
-pub returns-in_default : goal.returns-in_default
-returns-in_default c = call-no _ _ _ _ _ _ _ c.callee-n.ensures c.in_default.is
+pub returns-in_err-callee : goal.returns-in_err-callee
+returns-in_err-callee c = let p = err_from_is_err_and c.from_residual.result c.from_residual.ensures.1 in rw (p.1, p.2) (call-unknown c.args.headings.now.text.now c.args.headings.now.words.now c.args.headings.now.firsts.now c.args.headings.now.titles.now c.args.word c.args.rest.now c.in_err-callee.ensures)
 
-pub returns-then-counts_fit : goal.returns-then-counts_fit
-returns-then-counts_fit c = call_fits _ _ _ _ _ _ _ _ _ c.callee-n.ensures c.in-Done.is c.heading_of.ensures c.counts_fit.ensures c.if-counts_fit.true
+pub returns-then-not-counts_fit : goal.returns-then-not-counts_fit
+returns-then-not-counts_fit c = rw c.refusal.ensures (call-bars c.args.headings.now.text.now c.args.headings.now.words.now c.args.headings.now.firsts.now c.args.headings.now.titles.now c.args.word c.args.rest.now c.in_ok-callee.ensures.0 _ (rw (c.heading_of.ensures ∙ wanted-is c.args.headings.now.words.now c.args.headings.now.firsts.now c.in_ok-callee.callee c.in_ok-callee.ensures.1) at c.counts_fit.ensures) c.if-not-counts_fit.true)
 
 pub returns : goal.returns
-returns c = call-bars _ _ _ _ _ _ _ _ _ c.callee-n.ensures c.in-Done.is c.heading_of.ensures c.counts_fit.ensures _ c.if-counts_fit.false c.place_of.ensures
+returns c = (call-fits c.args.headings.now.text.now c.args.headings.now.words.now c.args.headings.now.firsts.now c.args.headings.now.titles.now c.args.word c.args.rest.now c.in_ok-callee.ensures.0 _ (rw (c.heading_of.ensures ∙ wanted-is c.args.headings.now.words.now c.args.headings.now.firsts.now c.in_ok-callee.callee c.in_ok-callee.ensures.1) at c.counts_fit.ensures) c.if-not-counts_fit.false, c.in_ok-callee.ensures.1)

@@ -1,15 +1,14 @@
-use native.Mathlib.Omega.{arith}
-use Rattle.sweep.proofs.Laws.Steps.{callee-gate, callee-none, callee-block, below_all, seen_at}
+use Rattle.std.proofs.Common.{arith}
+use Rattle.std.proofs.lemmas.List.{length-map}
+use Rattle.sweep.specs.Spelling.{letters_of}
+use Rattle.sweep.proofs.Laws.Steps.{callee-gate, callee-none, callee-block}
 use Rattle.names.proofs.callee.Goals as goal
 
-pub returns-then-k-lt10 : goal.returns-then-k-lt10
-returns-then-k-lt10 c = callee-gate c.args.text.now c.args.titles.now c.args.blocks c.args.word _ c.primitive-k.ensures c.if-k-lt10.true
+pub returns-in-Some : goal.returns-in-Some
+returns-in-Some c = (callee-gate c.args.headings.now.text.now c.args.headings.now.titles.now c.args.word (rw c.letters-name.ensures at c.in-Some.ensures), c.in-Some.ensures.1)
 
-pub returns-in_default : goal.returns-in_default
-returns-in_default c = callee-none c.args.text.now c.args.titles.now c.args.blocks c.args.word _ c.primitive-k.ensures c.if-k-lt10.false _ c.find-found.ensures _ c.in_default.is c.place_of.ensures
+pub returns-in-Some-find : goal.returns-in-Some-find
+returns-in-Some-find c = (callee-block c.args.headings.now.text.now c.args.headings.now.titles.now c.args.word (rw c.letters-name.ensures at c.in_default.ensures) (rw c.letters-name.ensures at c.in-Some-find.ensures), omega (arith, c.in-Some-find.ensures.1, length-map c.args.headings.now.titles.now (letters_of c.args.headings.now.text.now), c.args.headings.now.few))
 
-pub overflow_add-result : goal.overflow_add-result
-overflow_add-result c = record { fits = omega (arith, below_all c.args.text.now c.args.titles.now c.args.blocks c.args.word (seen_at c.args.text.now c.args.titles.now c.args.blocks c.args.word _ c.find-found.ensures c.in-At.is)) }
-
-pub returns : goal.returns
-returns c = callee-block c.args.text.now c.args.titles.now c.args.blocks c.args.word _ c.primitive-k.ensures c.if-k-lt10.false _ c.find-found.ensures c.in-At.is c.requires
+pub returns-in-None : goal.returns-in-None
+returns-in-None c = rw c.refusal.ensures (callee-none c.args.headings.now.text.now c.args.headings.now.titles.now c.args.word (rw c.letters-name.ensures at c.in_default.ensures) (rw c.letters-name.ensures at c.in-None.ensures))

@@ -1,16 +1,11 @@
-use mathlib.Core.Path.{refl, ◌∙◌}
-use native.Mathlib.Omega.{arith}
-use Rattle.sweep.proofs.Laws.Steps.{then-no, then-state, tells-done, tells-no, small-done}
+use Rattle.headings.specs.Callee.{wanted-is}
+use Rattle.std.proofs.Common.{refl, ◌∙◌}
+use Rattle.std.proofs.lemmas.Result.{err_from_is_err_and}
+use Rattle.sweep.proofs.Laws.Steps.{then-no, then-state}
 use Rattle.names.proofs.on_callee.Goals as goal
 
-pub overflow_add-place_of : goal.overflow_add-place_of
-overflow_add-place_of c = record { fits = omega (arith, small-done _ c.requires.1 c.in-Done.is, c.place_of.ensures) }
+pub returns-in_err-callee : goal.returns-in_err-callee
+returns-in_err-callee c = λ scope until. let p = err_from_is_err_and c.from_residual.result c.from_residual.ensures.1 in rw (p.1, p.2) (then-no _ c.in_err-callee.ensures)
 
-pub with_value-requires : goal.with_value-requires
-with_value-requires c = omega (arith, small-done _ c.requires.1 c.in-Done.is, c.place_of.ensures)
-
-pub returns-in-Done : goal.returns-in-Done
-returns-in-Done c = λ o scope until h. then-state _ (tells-done o _ h c.in-Done.is).0 (c.with_value.ensures ∙ rw c.place_of.ensures refl) (rw c.heading_of-h.ensures refl)
-
-pub returns-in-No : goal.returns-in-No
-returns-in-No c = λ o scope until h. then-no _ (tells-no o _ h c.in-No.is)
+pub returns : goal.returns
+returns c = λ scope until. then-state _ c.in_ok-callee.ensures.0 (c.with_value.ensures ∙ rw (c.place_of.ensures, c.code.ensures.0) refl) (rw (c.heading_of-heading.ensures ∙ wanted-is c.args.headings.now.words.now c.args.headings.now.firsts.now c.in_ok-callee.callee c.in_ok-callee.ensures.1) refl)

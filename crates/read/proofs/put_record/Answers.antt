@@ -1,19 +1,10 @@
-use Rattle.read.specs.Body.{stored_at}
-use lib.ListN.{length-set}
-use native.Mathlib.Omega.{arith}
+use Rattle.std.proofs.Common.{◌+◌, ◌*◌, arith, rules}
+use Rattle.write.specs.Put.{copied}
+use Rattle.read.specs.Body.{record_of}
 use Rattle.read.proofs.put_record.Goals as goal
 
-pub bounds-net-p-2 : goal.bounds-net-p-2
-bounds-net-p-2 c = simp length-set (omega arith)
-
-pub bounds-net-p-3 : goal.bounds-net-p-3
-bounds-net-p-3 c = simp length-set (omega arith)
-
-pub bounds-net-p-4 : goal.bounds-net-p-4
-bounds-net-p-4 c = simp length-set (omega arith)
-
-pub bounds-net-p-5 : goal.bounds-net-p-5
-bounds-net-p-5 c = simp length-set (omega arith)
-
 pub returns : goal.returns
-returns c = stored_at _ c.args.g c.wide.ensures.0
+returns c = record {
+  next = omega arith;
+  text = rw c.from.ensures (copied c.args.net.now (record_of c.args.g) (4 + 5 * c.args.i) _ (omega arith) (search rules) (omega arith));
+}

@@ -6,27 +6,18 @@ use mathlib.Core.Path.{ap, ◌∙◌}
 use native.Mathlib.Omega.{arith}
 use Rattle.read.proofs.read.Goals as goal
 
-pub shape_of-net-then-net-lt5124 : goal.shape_of-net-then-net-lt5124
-shape_of-net-then-net-lt5124 c = c.words.auto.lent
-
 pub returns-then-net-lt5124 : goal.returns-then-net-lt5124
 unfolding told
 returns-then-net-lt5124 c =
-    read_short c.words.ensures (omega (arith, c.words.auto.lent))
-
-pub shape_of-net-then-not-written_as : goal.shape_of-net-then-not-written_as
-shape_of-net-then-not-written_as c = c.words-then-not-written_as.auto.lent ∙ c.guess.auto.net ∙ c.words.auto.lent
+    read_short c.all.ensures (omega (arith, c.all.auto.lent))
 
 pub returns-then-not-written_as : goal.returns-then-not-written_as
 unfolding told
 returns-then-not-written_as c =
-    read_none (omega (arith, c.words.auto.lent, c.if-net-lt5124.false)) c.words.ensures c.guess.ensures (c.words-then-not-written_as.ensures ∙ ap zeros (c.guess.auto.net ∙ c.words.auto.lent))
+    read_none (omega (arith, c.all.auto.lent, c.if-net-lt5124.false)) c.all.ensures c.guess.ensures (c.all-then-not-written_as.ensures ∙ ap zeros (c.guess.auto.net ∙ c.all.auto.lent))
     (fails c.written_as.ensures c.if-not-written_as.true)
-
-pub shape_of-net : goal.shape_of-net
-shape_of-net c = c.guess.auto.net ∙ c.words.auto.lent
 
 pub returns : goal.returns
 unfolding told
 returns c =
-    read_done (omega (arith, c.words.auto.lent, c.if-net-lt5124.false)) c.words.ensures c.guess.ensures (holds c.written_as.ensures c.if-not-written_as.false)
+    read_done (omega (arith, c.all.auto.lent, c.if-net-lt5124.false)) c.all.ensures c.guess.ensures (holds c.written_as.ensures c.if-not-written_as.false)

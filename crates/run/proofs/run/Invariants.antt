@@ -3,8 +3,8 @@ use lib.ListN.{length}
 use mathlib.Core.Path.{◌≡◌}
 use Rattle.run.proofs.run.Given as goal
 
-abbrev pub invariant-loop : goal.invariant-loop
-invariant-loop l = (length l.values ≡ length l.initial.values) × Going l.net l.inputs l.values
+abbrev pub invariant-loop-net : goal.invariant-loop-net
+invariant-loop-net l = (length l.values ≡ length l.initial.values) × Going l.net.words.now l.inputs l.values
 
-abbrev pub decreases-loop : goal.decreases-loop
-decreases-loop l = twos l.values
+abbrev pub decreases-loop-net : goal.decreases-loop-net
+decreases-loop-net l = twos l.values

@@ -14,9 +14,9 @@ loop-i-preserved c = (
   c.visit-changed.auto.values ∙ c.loop-i.invariant.0,
   λ ins ok g0.
       let s = c.loop-i.invariant.1 ins ok g0 in
-      let long : 1536 ≤ length c.loop-i.values = omega (arith, c.loop-i.invariant.0, c.requires.in_bounds) in
-      let within : c.loop-i.i < gates c.args.net.now = omega (arith, c.loop-i-test.true) in (
-        visited _ c.requires.well_formed ins ok long within s.0 c.visit-changed.ensures,
-        sweep-more _ c.requires.well_formed ins ok long within s.1 c.visit-changed.ensures,
+      let long : 1536 ≤ length c.loop-i.values = omega (arith, c.loop-i.invariant.0, c.requires) in
+      let within : c.loop-i.i < gates c.args.net.words.now = omega (arith, c.loop-i-test.true) in (
+        visited _ c.args.net.well_formed ins ok long within s.0 c.visit-changed.ensures,
+        sweep-more _ c.args.net.well_formed ins ok long within s.1 c.visit-changed.ensures,
       ),
 )

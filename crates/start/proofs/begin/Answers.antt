@@ -1,59 +1,172 @@
+use Rattle.std.proofs.Common.{◌≡◌, ◌-◌, [], length, ap, refl, arith, replicate, pos, Err}
 use Rattle.frames.specs.Fresh.{Declares, some-state}
+use Rattle.rules.specs.Frames.{blanks}
+use Rattle.rules.specs.Unfold.{Wires}
 use Rattle.rules.specs.Values.{generics}
-use Rattle.start.specs.Begins.{Numbers, BeginsAs, knows-none, decls-var, wired-of, body-inside, began_of}
-use Rattle.start.specs.First.{ports-refused, locals-refused}
-use mathlib.Core.List.{[]}
-use mathlib.Core.Path.{refl}
-use native.Mathlib.Omega.{arith}
+use Rattle.start.specs.Begins.{Begins, knows-none, blank-filled, decls-in, decls-out, decls-var, inputs-of, numbered_of, wired-of, body-inside, began_of}
+use Rattle.start.specs.First.{inputs-refused, outputs-refused, ports-refused, locals-refused}
+use Rattle.frames.specs.declared.Frame.{Frame}
+use Rattle.frames.specs.Stands.{Knows, no_vector}
 use Rattle.start.proofs.begin.Goals as goal
 
-pub number_ports-ports-requires : goal.number_ports-ports-requires
-number_ports-ports-requires c = record { written_block = c.requires; base_value = (refl, refl, refl, knows-none) }
+pub after_generics-ports-requires : goal.after_generics-ports-requires
+after_generics-ports-requires c = c.requires
 
-pub declare-fresh-requires : goal.declare-fresh-requires
-unfolding Numbers
-declare-fresh-requires c =
-    let p = c.requires in
-    let x = rw c.in-Done.is at (c.number_ports-ports.ensures p.block p.here) in
-    record { written_decls = record { decls = p.block.locals; names = x.names; here = decls-var p.here x.next; filled = x.filled }; to_bound = (x.few, x.wires) }
+pub overflow_sub-generics : goal.overflow_sub-generics
+overflow_sub-generics c = let e = (c.after_generics-ports.ensures _ c.requires.here).1 in omega (arith, e)
 
-pub overflow_add-result : goal.overflow_add-result
-unfolding Numbers
-overflow_add-result c =
+pub declare-requires-clause-written_decls : goal.declare-requires-clause-written_decls
+declare-requires-clause-written_decls c =
     let p = c.requires in
-    let x = rw c.in-Done.is at (c.number_ports-ports.ensures p.block p.here) in
-    let y = wired-of p.here x (rw c.in-Done-fresh.is at (c.declare-fresh.ensures (generics []) p.block.locals x.names (some-state _) knows-none (decls-var p.here x.next) x.filled refl)) in
-    omega (arith, body-inside p.here y, p.here.short)
+    let z = c.empty-frame.ensures in
+    let n : c.empty-frame.result.names ≡ replicate 48 no_vector = ap (λ (f : Frame). f.names) z in
+    let e = c.after_generics-ports.ensures p.block p.here in
+    let q : c.after_generics-ports.result - c.args.place - 1 ≡ length p.block.generics = omega (arith, e.1) in
+    record { decls = p.block.inputs; names = blanks Wires p.block.generics; here = decls-in p.here e.0; filled = blank-filled p.block.generics q n }
 
-pub after_body-requires : goal.after_body-requires
-unfolding Numbers
-after_body-requires c =
+pub declare-requires-clause-from_bound : goal.declare-requires-clause-from_bound
+declare-requires-clause-from_bound c =
+    let e = c.after_generics-ports.ensures _ c.requires.here in
+    (omega (arith, e.1, c.requires.here.few), omega arith)
+
+pub returns-in_err-ins : goal.returns-in_err-ins
+unfolding Declares Begins
+returns-in_err-ins c M h =
+    let z = c.empty-frame.ensures in
+    let K : Knows c.empty-frame.result.values (generics []) = rw z knows-none in
+    let n : c.empty-frame.result.names ≡ replicate 48 no_vector = ap (λ (f : Frame). f.names) z in
+    let e = c.after_generics-ports.ensures M h in
+    let q : c.after_generics-ports.result - c.args.place - 1 ≡ length M.generics = omega (arith, e.1) in
+    let g = c.declare.ensures (generics []) M.inputs (blanks Wires M.generics) (some-state 0) K (decls-in h e.0) (blank-filled M.generics q n) refl in
+    let r : c.from_residual.result ≡ Err c.in_err-ins.field-0.0 = grind arith in
+    rw r (ports-refused M (inputs-refused M (rw c.in_err-ins.was at g)))
+
+pub declare-requires-2-clause-written_decls : goal.declare-requires-2-clause-written_decls
+declare-requires-2-clause-written_decls c =
     let p = c.requires in
-    let x = rw c.in-Done.is at (c.number_ports-ports.ensures p.block p.here) in
-    let y = wired-of p.here x (rw c.in-Done-fresh.is at (c.declare-fresh.ensures (generics []) p.block.locals x.names (some-state _) knows-none (decls-var p.here x.next) x.filled refl)) in
-    let i = body-inside p.here y in
+    let z = c.empty-frame.ensures in
+    let K : Knows c.empty-frame.result.values (generics []) = rw z knows-none in
+    let n : c.empty-frame.result.names ≡ replicate 48 no_vector = ap (λ (f : Frame). f.names) z in
+    let e = c.after_generics-ports.ensures p.block p.here in
+    let q : c.after_generics-ports.result - c.args.place - 1 ≡ length p.block.generics = omega (arith, e.1) in
+    let g = c.declare.ensures (generics []) p.block.inputs (blanks Wires p.block.generics) (some-state 0) K (decls-in p.here e.0) (blank-filled p.block.generics q n) refl in
+    let x = inputs-of p.here e.0 (rw c.in_ok-ins.was at g) in
+    record { decls = p.block.outputs; names = x.names; here = decls-out p.here x.next; filled = x.filled }
+
+pub declare-requires-2-clause-from_bound : goal.declare-requires-2-clause-from_bound
+declare-requires-2-clause-from_bound c =
+    let p = c.requires in
+    let z = c.empty-frame.ensures in
+    let K : Knows c.empty-frame.result.values (generics []) = rw z knows-none in
+    let n : c.empty-frame.result.names ≡ replicate 48 no_vector = ap (λ (f : Frame). f.names) z in
+    let e = c.after_generics-ports.ensures p.block p.here in
+    let q : c.after_generics-ports.result - c.args.place - 1 ≡ length p.block.generics = omega (arith, e.1) in
+    let g = c.declare.ensures (generics []) p.block.inputs (blanks Wires p.block.generics) (some-state 0) K (decls-in p.here e.0) (blank-filled p.block.generics q n) refl in
+    let x = inputs-of p.here e.0 (rw c.in_ok-ins.was at g) in
+    (x.few, omega (arith, x.wires))
+
+pub returns-in_err-outs : goal.returns-in_err-outs
+unfolding Declares Begins
+returns-in_err-outs c M h =
+    let z = c.empty-frame.ensures in
+    let K : Knows c.empty-frame.result.values (generics []) = rw z knows-none in
+    let n : c.empty-frame.result.names ≡ replicate 48 no_vector = ap (λ (f : Frame). f.names) z in
+    let e = c.after_generics-ports.ensures M h in
+    let q : c.after_generics-ports.result - c.args.place - 1 ≡ length M.generics = omega (arith, e.1) in
+    let g = c.declare.ensures (generics []) M.inputs (blanks Wires M.generics) (some-state 0) K (decls-in h e.0) (blank-filled M.generics q n) refl in
+    let x = inputs-of h e.0 (rw c.in_ok-ins.was at g) in
+    let o = c.declare-2.ensures (generics []) M.outputs x.names (some-state _) K (decls-out h x.next) x.filled refl in
+    let r : c.from_residual-in_err-outs.result ≡ Err c.in_err-outs.field-0.0 = grind arith in
+    rw r (ports-refused M (outputs-refused M {σ = x.names} x.is (rw c.in_err-outs.was at o)))
+
+pub declare-requires-3-clause-written_decls : goal.declare-requires-3-clause-written_decls
+declare-requires-3-clause-written_decls c =
+    let p = c.requires in
+    let z = c.empty-frame.ensures in
+    let K : Knows c.empty-frame.result.values (generics []) = rw z knows-none in
+    let n : c.empty-frame.result.names ≡ replicate 48 no_vector = ap (λ (f : Frame). f.names) z in
+    let e = c.after_generics-ports.ensures p.block p.here in
+    let q : c.after_generics-ports.result - c.args.place - 1 ≡ length p.block.generics = omega (arith, e.1) in
+    let g = c.declare.ensures (generics []) p.block.inputs (blanks Wires p.block.generics) (some-state 0) K (decls-in p.here e.0) (blank-filled p.block.generics q n) refl in
+    let x = inputs-of p.here e.0 (rw c.in_ok-ins.was at g) in
+    let o = c.declare-2.ensures (generics []) p.block.outputs x.names (some-state _) K (decls-out p.here x.next) x.filled refl in
+    let y = numbered_of p.here x (rw c.in_ok-outs.was at o) in
+    record { decls = p.block.locals; names = y.names; here = decls-var p.here y.next; filled = y.filled }
+
+pub declare-requires-3-clause-from_bound : goal.declare-requires-3-clause-from_bound
+declare-requires-3-clause-from_bound c =
+    let p = c.requires in
+    let z = c.empty-frame.ensures in
+    let K : Knows c.empty-frame.result.values (generics []) = rw z knows-none in
+    let n : c.empty-frame.result.names ≡ replicate 48 no_vector = ap (λ (f : Frame). f.names) z in
+    let e = c.after_generics-ports.ensures p.block p.here in
+    let q : c.after_generics-ports.result - c.args.place - 1 ≡ length p.block.generics = omega (arith, e.1) in
+    let g = c.declare.ensures (generics []) p.block.inputs (blanks Wires p.block.generics) (some-state 0) K (decls-in p.here e.0) (blank-filled p.block.generics q n) refl in
+    let x = inputs-of p.here e.0 (rw c.in_ok-ins.was at g) in
+    let o = c.declare-2.ensures (generics []) p.block.outputs x.names (some-state _) K (decls-out p.here x.next) x.filled refl in
+    let y = numbered_of p.here x (rw c.in_ok-outs.was at o) in
+    (y.few, y.wires)
+
+pub returns-in_err-locals : goal.returns-in_err-locals
+unfolding Declares Begins
+returns-in_err-locals c M h =
+    let z = c.empty-frame.ensures in
+    let K : Knows c.empty-frame.result.values (generics []) = rw z knows-none in
+    let n : c.empty-frame.result.names ≡ replicate 48 no_vector = ap (λ (f : Frame). f.names) z in
+    let e = c.after_generics-ports.ensures M h in
+    let q : c.after_generics-ports.result - c.args.place - 1 ≡ length M.generics = omega (arith, e.1) in
+    let g = c.declare.ensures (generics []) M.inputs (blanks Wires M.generics) (some-state 0) K (decls-in h e.0) (blank-filled M.generics q n) refl in
+    let x = inputs-of h e.0 (rw c.in_ok-ins.was at g) in
+    let o = c.declare-2.ensures (generics []) M.outputs x.names (some-state _) K (decls-out h x.next) x.filled refl in
+    let y = numbered_of h x (rw c.in_ok-outs.was at o) in
+    let l = c.declare-3.ensures (generics []) M.locals y.names (some-state _) K (decls-var h y.next) y.filled refl in
+    let r : c.from_residual-in_err-locals.result ≡ Err c.in_err-locals.field-0.0 = grind arith in
+    rw r (locals-refused M {σ = y.names} y.is (rw c.in_err-locals.was at l))
+
+pub body_at-requires : goal.body_at-requires
+body_at-requires c =
+    let p = c.requires in
+    let z = c.empty-frame.ensures in
+    let K : Knows c.empty-frame.result.values (generics []) = rw z knows-none in
+    let n : c.empty-frame.result.names ≡ replicate 48 no_vector = ap (λ (f : Frame). f.names) z in
+    let e = c.after_generics-ports.ensures p.block p.here in
+    let q : c.after_generics-ports.result - c.args.place - 1 ≡ length p.block.generics = omega (arith, e.1) in
+    let g = c.declare.ensures (generics []) p.block.inputs (blanks Wires p.block.generics) (some-state 0) K (decls-in p.here e.0) (blank-filled p.block.generics q n) refl in
+    let x = inputs-of p.here e.0 (rw c.in_ok-ins.was at g) in
+    let o = c.declare-2.ensures (generics []) p.block.outputs x.names (some-state _) K (decls-out p.here x.next) x.filled refl in
+    let y = numbered_of p.here x (rw c.in_ok-outs.was at o) in
+    let l = c.declare-3.ensures (generics []) p.block.locals y.names (some-state _) K (decls-var p.here y.next) y.filled refl in
+    let w = wired-of p.here y (rw c.in_ok-locals.was at l) in
+    let i = body-inside p.here w in
     (omega (arith, i, p.here.limit), omega (arith, i, p.here.short))
 
 pub overflow_sub-result : goal.overflow_sub-result
-unfolding Numbers
 overflow_sub-result c =
     let p = c.requires in
-    let x = rw c.in-Done.is at (c.number_ports-ports.ensures p.block p.here) in
-    x.grows
+    let z = c.empty-frame.ensures in
+    let K : Knows c.empty-frame.result.values (generics []) = rw z knows-none in
+    let n : c.empty-frame.result.names ≡ replicate 48 no_vector = ap (λ (f : Frame). f.names) z in
+    let e = c.after_generics-ports.ensures p.block p.here in
+    let q : c.after_generics-ports.result - c.args.place - 1 ≡ length p.block.generics = omega (arith, e.1) in
+    let g = c.declare.ensures (generics []) p.block.inputs (blanks Wires p.block.generics) (some-state 0) K (decls-in p.here e.0) (blank-filled p.block.generics q n) refl in
+    let x = inputs-of p.here e.0 (rw c.in_ok-ins.was at g) in
+    let o = c.declare-2.ensures (generics []) p.block.outputs x.names (some-state _) K (decls-out p.here x.next) x.filled refl in
+    let y = numbered_of p.here x (rw c.in_ok-outs.was at o) in
+    y.grows
 
-pub returns-in-No : goal.returns-in-No
-unfolding Numbers BeginsAs
-returns-in-No c M h = ports-refused M (rw c.in-No.is at (c.number_ports-ports.ensures M h))
-
-pub returns-in-Wrong : goal.returns-in-Wrong
-unfolding Numbers Declares BeginsAs
-returns-in-Wrong c M h =
-    let x = rw c.in-Done.is at (c.number_ports-ports.ensures M h) in
-    locals-refused M {σ = x.names} x.is (rw c.in-Wrong.is at (c.declare-fresh.ensures (generics []) M.locals x.names (some-state _) knows-none (decls-var h x.next) x.filled refl))
-
-pub returns-in-Done-fresh : goal.returns-in-Done-fresh
-unfolding Numbers BeginsAs
-returns-in-Done-fresh c M h =
-    let x = rw c.in-Done.is at (c.number_ports-ports.ensures M h) in
-    let y = wired-of h x (rw c.in-Done-fresh.is at (c.declare-fresh.ensures (generics []) M.locals x.names (some-state _) knows-none (decls-var h x.next) x.filled refl)) in
-    began_of h y c.after_body.ensures
+pub returns : goal.returns
+unfolding Begins
+returns c M h =
+    let z = c.empty-frame.ensures in
+    let K : Knows c.empty-frame.result.values (generics []) = rw z knows-none in
+    let n : c.empty-frame.result.names ≡ replicate 48 no_vector = ap (λ (f : Frame). f.names) z in
+    let e = c.after_generics-ports.ensures M h in
+    let q : c.after_generics-ports.result - c.args.place - 1 ≡ length M.generics = omega (arith, e.1) in
+    let g = c.declare.ensures (generics []) M.inputs (blanks Wires M.generics) (some-state 0) K (decls-in h e.0) (blank-filled M.generics q n) refl in
+    let x = inputs-of h e.0 (rw c.in_ok-ins.was at g) in
+    let o = c.declare-2.ensures (generics []) M.outputs x.names (some-state _) K (decls-out h x.next) x.filled refl in
+    let y = numbered_of h x (rw c.in_ok-outs.was at o) in
+    let l = c.declare-3.ensures (generics []) M.locals y.names (some-state _) K (decls-var h y.next) y.filled refl in
+    let w = wired-of h y (rw c.in_ok-locals.was at l) in
+    let v : c.empty-frame.result.values ≡ replicate 48 (pos 0) = ap (λ (f : Frame). f.values) z in
+    rw v (began_of h w c.body_at.ensures)

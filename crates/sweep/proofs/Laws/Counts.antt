@@ -1,26 +1,17 @@
 -- Laws of what a heading wants and a call gives, word by word. Assumes nothing.
-use Rattle.std.specs.Prelude.{◌≡◌, refl, Bool, true, false, cond, List, [], ◌∷◌, ℕ, suc, ◌+◌, ◌-◌, ◌<◌, ◌≤◌, eqb, length, get_or, take, drop, filter, take_while}
-use Rattle.std.proofs.Common.{ap, add-one, arith, drop_of_length-le, length-take, get_or-take}
+use Rattle.std.specs.Prelude.{◌≡◌, refl, Bool, true, false, cond, List, [], ◌∷◌, ℕ, suc, ◌+◌, ◌-◌, ◌<◌, ◌≤◌, eqb, length, get_or, drop, filter, take_while}
+use Rattle.std.proofs.Common.{ap, add-one, arith, drop_of_length-le}
 use Rattle.std.proofs.lemmas.List.Sums.{take_while-cons}
 use Rattle.std.specs.Int.{from_bool}
 use Rattle.std.proofs.Math.Dec.{ltb}
 use Rattle.std.proofs.Math.Seq.{drop-cons}
 use borrow.Author.Tests.{lt-ltb, le-ltb}
 use Rattle.rules.specs.Text.{pick}
-use Rattle.rules.specs.Primitives.{inputs_of}
 use Rattle.tape.specs.Layout.{kind_of, head_in, value_of, GENERIC, IN, OUT}
 use Rattle.sweep.specs.Sweep.{leading, generics_given, in_call, given, heading_at, heading_of}
 use Rattle.sweep.specs.declared.Heading.{Heading}
 
 -- the words from i on begin with the one at i
-pub opened : (t : List ℕ) (end i : ℕ) → i < end → end ≤ length t → drop i (take end t) ≡ get_or t i 0 ∷ drop (i + 1) (take end t)
-opened t end i h l =
-    let a : i < length (take end t) = simp length-take (omega arith) in
-    rw (add-one, drop-cons (take end t) i 0 a, get_or-take end t i 0 h)
-
-pub none_left : (t : List ℕ) (end i : ℕ) → end ≤ i → drop i (take end t) ≡ []
-none_left t end i h = let l : length (take end t) ≤ i = simp length-take (omega arith) in drop_of_length-le (take end t) l
-
 pub first-of : (t : List ℕ) (i : ℕ) → i < length t → drop i t ≡ get_or t i 0 ∷ drop (i + 1) t
 first-of t i h = rw (add-one, drop-cons t i 0 h)
 
@@ -89,10 +80,6 @@ pub made-heading : (H : List ℕ) (p g i o : ℕ) → g ≡ leading GENERIC (dro
     → ◌≡◌ {A = Heading} (record { generics = g; inputs = i; outputs = o; want = p + 1 + g }) (heading_at H p)
 unfolding heading_at
 made-heading H p g i o a b c = rw (← a, ← b, ← c)
-
-pub gate-heading : (H F : List ℕ) (k i : ℕ) → k < 10 → i ≡ inputs_of k → ◌≡◌ {A = Heading} (record { generics = 0; inputs = i; outputs = 1; want = 0 }) (heading_of H F k)
-unfolding heading_of pick
-gate-heading H F k i h e = rw (lt-ltb k 10 h, e)
 
 pub block-heading : (H F : List ℕ) (b p : ℕ) (h : Heading) → p ≡ get_or F b 0 → h ≡ heading_at H p → h ≡ heading_of H F (10 + b)
 unfolding heading_of pick

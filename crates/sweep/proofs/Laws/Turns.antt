@@ -1,17 +1,17 @@
 -- Laws of the sweep: a word by its kind, and one word after another. Assumes nothing.
-use Rattle.std.specs.Prelude.{◌≡◌, refl, Bool, true, false, ◌||◌, List, [], ◌∷◌, ◌++◌, ℕ, zero, suc, ◌+◌, ◌-◌, ◌<◌, ◌≤◌, eqb, length, get_or, set, take, drop, Result}
-use Rattle.std.proofs.Common.{sym, ◌∙◌, subst, append-nil, add-one, arith, take-suc-set, drop-set-lt, get_or-drop, drop-drop}
+use Rattle.std.specs.Prelude.{◌≡◌, refl, Bool, true, false, ◌||◌, List, [], ◌∷◌, ◌++◌, ℕ, ◌+◌, ◌<◌, ◌≤◌, eqb, length, get_or, set, take, drop, Result}
+use Rattle.std.proofs.Common.{sym, ◌∙◌, subst, append-nil, add-one, arith, take-suc-set, drop-set-lt, drop-drop, drop_of_length-le, take_all}
 use Rattle.std.proofs.Math.Path.{ap}
-use Rattle.std.proofs.Math.Seq.{append_snoc, take-nil}
+use Rattle.std.proofs.Math.Seq.{append_snoc}
 use borrow.Author.Tests.{ne_eqb, lt-ltb, le-ltb}
 use Rattle.rules.specs.Text.{pick}
 use Rattle.rules.specs.Outcome.{Out, ok, refuse, ◌>>=◌}
-use Rattle.tape.specs.Layout.{kind_of, value_of}
 use Rattle.rules.specs.declared.Refusal.{Refusal}
+use Rattle.tape.specs.Layout.{kind_of, value_of}
 use Rattle.sweep.specs.declared.Step.{Step}
 use Rattle.sweep.specs.Spelling.{valued}
 use Rattle.sweep.specs.Sweep.{State, declared_at, name_step, index_step, argument_step, call_step, block_step, declare_step, heading_of, after, called, argued, indexed, entered, begun, declares, turn, sweep, onto, Says}
-use Rattle.sweep.proofs.Laws.Counts.{opened, none_left}
+use Rattle.sweep.proofs.Laws.Counts.{first-of}
 
 pub says-as : {o u : Out (ℕ × State)} (scope until : List ℕ) (r : Result Step Refusal) → o ≡ u → Says u scope until r → Says o scope until r
 says-as scope until r e h = subst (λ o. Says o scope until r) (sym e) h
@@ -81,52 +81,29 @@ module _ (s H F N : List ℕ) (p : ℕ) (S : State) (w : ℕ) (ws : List ℕ) wh
 
 -- ---- on the tape t, which from p on is as t₀ was
 
-get_or-from : (p : ℕ) (t t₀ : List ℕ) → drop p t ≡ drop p t₀ → get_or t p 0 ≡ get_or t₀ p 0
-get_or-from p t t₀ e =
-    let z : p + 0 ≡ p = omega arith in
-    subst (λ i. get_or t i 0 ≡ get_or t₀ i 0) z (sym (get_or-drop p t 0 0) ∙ ap (λ l. get_or l 0 0) e ∙ get_or-drop p t₀ 0 0)
+module _ (s H F N : List ℕ) (p : ℕ) (S S₀ : State) (t t₀ : List ℕ) (lt : p < length t) (same : drop p t ≡ drop p t₀) (so : sweep s H F N 0 S₀ t₀ ≡ onto (take p t) (sweep s H F N p S (drop p t₀))) where
+  here : drop p t₀ ≡ get_or t p 0 ∷ drop (p + 1) t
+  here = sym same ∙ first-of t p lt
 
-drop_more : (p : ℕ) (t t₀ : List ℕ) → drop p t ≡ drop p t₀ → drop (p + 1) t ≡ drop (p + 1) t₀
-drop_more p t t₀ e = sym (drop-drop 1 p t) ∙ ap (drop 1) e ∙ drop-drop 1 p t₀
+  later : drop (p + 1) t ≡ drop (p + 1) t₀
+  later = sym (drop-drop 1 p t) ∙ ap (drop 1) same ∙ drop-drop 1 p t₀
 
-drop-taken : (p n : ℕ) (t : List ℕ) → drop p (take n t) ≡ take (n - p) (drop p t)
-drop-taken zero n t = let e : n - 0 ≡ n = omega arith in rw e
-drop-taken (suc p) zero t = let e : 0 - suc p ≡ 0 = omega arith in rw e
-drop-taken (suc p) (suc n) [] = sym (take-nil (suc n - suc p))
-drop-taken (suc p) (suc n) (x ∷ t) = let e : suc n - suc p ≡ n - p = omega arith in rw e (drop-taken p n t)
-
-both-taken : (p n : ℕ) (t t₀ : List ℕ) → drop p t ≡ drop p t₀ → drop p (take n t) ≡ drop p (take n t₀)
-both-taken p n t t₀ e = drop-taken p n t ∙ ap (take (n - p)) e ∙ sym (drop-taken p n t₀)
-
-module _ (s H F N : List ℕ) (end p : ℕ) (S S₀ : State) (t t₀ : List ℕ) (l : length t ≡ length t₀) (le : end ≤ length t) (lt : p < end) (same : drop p t ≡ drop p t₀)
-    (so : sweep s H F N 0 S₀ (take end t₀) ≡ onto (take p t) (sweep s H F N p S (drop p (take end t₀)))) where
-  here : drop p (take end t₀) ≡ get_or t p 0 ∷ drop (p + 1) (take end t)
-  here =
-      let le₀ : end ≤ length t₀ = omega arith in
-      opened t₀ end p lt le₀ ∙ rw (get_or-from p t t₀ same, both-taken (p + 1) end t t₀ (drop_more p t t₀ same))
-
-  pub halts : {n q : ℕ} → turn s H F N p S (get_or t p 0) (drop (p + 1) (take end t)) ≡ refuse n q → sweep s H F N 0 S₀ (take end t₀) ≡ refuse n q
+  pub halts : {n q : ℕ} → turn s H F N p S (get_or t p 0) (drop (p + 1) t) ≡ refuse n q → sweep s H F N 0 S₀ t₀ ≡ refuse n q
   unfolding after
   halts e = so ∙ ap (onto (take p t)) (ap (sweep s H F N p S) here ∙ sweep-no s H F N p S _ _ e)
 
-  pub goes : {v : ℕ} {T : State} → turn s H F N p S (get_or t p 0) (drop (p + 1) (take end t)) ≡ ok (v, T)
-      → sweep s H F N 0 S₀ (take end t₀) ≡ onto (take (p + 1) (set t p v)) (sweep s H F N (p + 1) T (drop (p + 1) (take end t₀)))
+  pub goes : {v : ℕ} {T : State} → turn s H F N p S (get_or t p 0) (drop (p + 1) t) ≡ ok (v, T)
+      → sweep s H F N 0 S₀ t₀ ≡ onto (take (p + 1) (set t p v)) (sweep s H F N (p + 1) T (drop (p + 1) t₀))
   goes {v} {T} e =
-      let a : p < length t = omega arith in
-      let b = both-taken (p + 1) end t t₀ (drop_more p t t₀ same) in
       so ∙ ap (onto (take p t)) (ap (sweep s H F N p S) here ∙ sweep-on s H F N p S _ _ e) ∙ onto-one (take p t) v _
-      ∙ rw (add-one p, take-suc-set t p v a, ← (add-one p), b)
+      ∙ rw (add-one p, take-suc-set t p v lt, ← (add-one p), later)
 
   pub goes_same : (v : ℕ) → drop (p + 1) (set t p v) ≡ drop (p + 1) t₀
-  goes_same v = let a : p < p + 1 = omega arith in drop-set-lt (p + 1) t p v a ∙ drop_more p t t₀ same
+  goes_same v = let a : p < p + 1 = omega arith in drop-set-lt (p + 1) t p v a ∙ later
 
-pub begins : (s H F N : List ℕ) (S : State) (t₀ ws : List ℕ) → sweep s H F N 0 S ws ≡ onto (take 0 t₀) (sweep s H F N 0 S (drop 0 ws))
-begins s H F N S t₀ ws = sym (onto-none _)
+pub begins : (s H F N : List ℕ) (S : State) (t : List ℕ) → sweep s H F N 0 S t ≡ onto (take 0 t) (sweep s H F N 0 S (drop 0 t))
+begins s H F N S t = sym (onto-none _)
 
-pub finished : (s H F N : List ℕ) (end p : ℕ) (S S₀ : State) (t t₀ : List ℕ) → p ≤ end → end ≤ p
-    → sweep s H F N 0 S₀ (take end t₀) ≡ onto (take p t) (sweep s H F N p S (drop p (take end t₀))) → sweep s H F N 0 S₀ (take end t₀) ≡ ok (take end t)
+pub finished : (s H F N : List ℕ) (p : ℕ) (S S₀ : State) (t t₀ : List ℕ) → length t ≤ p → length t₀ ≡ length t → sweep s H F N 0 S₀ t₀ ≡ onto (take p t) (sweep s H F N p S (drop p t₀)) → sweep s H F N 0 S₀ t₀ ≡ ok t
 unfolding sweep after
-finished s H F N end p S S₀ t t₀ h g so = let e : p ≡ end = omega arith in so ∙ rw (none_left t₀ end p g, e) (ap ok (append-nil _))
-
-pub after-end : (end p : ℕ) (t t₀ : List ℕ) → p ≤ end → end ≤ p → drop p t ≡ drop p t₀ → drop end t ≡ drop end t₀
-after-end end p t t₀ h g e = let z : p ≡ end = omega arith in subst (λ i. drop i t ≡ drop i t₀) z e
+finished s H F N p S S₀ t t₀ h l so = let k : length t₀ ≤ p = omega arith in so ∙ rw (drop_of_length-le t₀ k) (ap ok (append-nil _ ∙ take_all p t h))

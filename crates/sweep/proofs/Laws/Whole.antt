@@ -1,8 +1,9 @@
 -- The sweep over a program's tape, and main after it, are the rule for names. Assumes nothing.
 use Rattle.std.specs.Prelude.{◌≡◌, Bool, true, false, ltb, length, set, take, drop, Result, Ok, Err}
 use Rattle.std.proofs.Math.Path.{refl, sym, ap}
-use Rattle.std.proofs.Common.{◌∙◌, subst, arith, length-take, length-set, take-append-drop, ext_get_or, get_or-take, ne_eqb, lt-ltb, le-ltb}
+use Rattle.std.proofs.Common.{◌∙◌, subst, arith, length-take, length-set, length-append, length-drop, take-append-drop, ext_get_or, get_or-take, ne_eqb, lt-ltb, le-ltb}
 use Rattle.std.proofs.Math.Bool.{not}
+use Rattle.std.proofs.Math.Seq.{take-append_seam, drop-append_seam}
 use mathlib.Core.List.{List, [], ◌∷◌, ◌++◌, map, append-nil}
 use Prim.Native.Nat.{ℕ, zero, suc, ◌+◌, ◌-◌, ◌<◌, ◌≤◌}
 use Rattle.std.proofs.Math.Dec.{eqb, leb-suc-suc}
@@ -201,47 +202,57 @@ module _ (s t : List ℕ) (end : ℕ) (Bs : Spelled) (holds : Holds s t end Bs) 
         }
         go (refuse n p) x g = absurd (ok-no (sym g))
 
--- ---- with rows that are lent
+-- ---- with rows that were gathered
 
-module _ (s t : List ℕ) (end : ℕ) {h₀ h f₀ f n₀ n sc un : List ℕ} {k : ℕ} (z₁ : h₀ ≡ zeros 3140) (z₂ : f₀ ≡ zeros 64) (z₃ : n₀ ≡ zeros 64) (z₄ : sc ≡ zeros 48) (z₅ : un ≡ zeros 48)
-    (a : h ≡ put h₀ 4 (headings (take end t))) (b : f ≡ put f₀ 0 (firsts 4 (take end t))) (c : n ≡ put n₀ 0 (titles (take end t))) (d : k ≡ length (titles (take end t))) where
-  a' : h ≡ put (zeros 3140) 4 (headings (take end t))
-  a' = a ∙ ap (λ l. put l 4 (headings (take end t))) z₁
-
-  b' : f ≡ put (zeros 64) 0 (firsts 4 (take end t))
-  b' = b ∙ ap (λ l. put l 0 (firsts 4 (take end t))) z₂
-
+module _ (s t : List ℕ) (end : ℕ) {h f n : List ℕ} {k : ℕ} (a : h ≡ put (zeros 3140) 4 (headings (take end t))) (b : f ≡ put (zeros 64) 0 (firsts 4 (take end t))) (c : n ≡ put (zeros 64) 0 (titles (take end t))) (d : k ≡ length (titles (take end t))) where
   c' : take k n ≡ take (length (titles (take end t))) (put (zeros 64) 0 (titles (take end t)))
-  c' = rw (d, c, z₃) refl
+  c' = rw (d, c) refl
 
-  pub lent_rows : Readable s t end → Rows h f
-  lent_rows r = rw (a', b') (rows_right s t end r.program r.holds)
+  module _ (r : Readable s t end) where
+    pub gathered-rows : Rows h f
+    gathered-rows = rw (a, b) (rows_right s t end r.program r.holds)
 
-  swept-so : sweep s h f (take k n) 0 (start sc un) (take end t) ≡ sweep s (put (zeros 3140) 4 (headings (take end t))) (put (zeros 64) 0 (firsts 4 (take end t))) (take (length (titles (take end t))) (put (zeros 64) 0 (titles (take end t)))) 0 (start (zeros 48) (zeros 48)) (take end t)
-  swept-so = rw (a', b', c', z₄, z₅) refl
+    titles-64 : length n ≡ 64
+    titles-64 = ap length c ∙ put-length (titles (take end t)) (zeros 64) 0 ∙ zeros-length 64
+
+    pub titles-fit : k ≤ length n
+    titles-fit = omega (arith, titles-64, d, ap length (titles-are s t end r.program r.holds), length-map r.program title_w, r.holds.many)
+
+    pub titles-taken : k ≡ length (take k n)
+    titles-taken = omega (arith, titles-fit, length-take k n)
+
+    pub titles-few : length (take k n) ≤ 64
+    titles-few = omega (arith, titles-64, length-take k n)
+
+  swept-so : sweep s h f (take k n) 0 (start (zeros 48) (zeros 48)) (take end t) ≡ sweep s (put (zeros 3140) 4 (headings (take end t))) (put (zeros 64) 0 (firsts 4 (take end t))) (take (length (titles (take end t))) (put (zeros 64) 0 (titles (take end t)))) 0 (start (zeros 48) (zeros 48)) (take end t)
+  swept-so = rw (a, b, c') refl
 
   main-so : main_in s h f (take k n) ≡ main_in s (put (zeros 3140) 4 (headings (take end t))) (put (zeros 64) 0 (firsts 4 (take end t))) (take (length (titles (take end t))) (put (zeros 64) 0 (titles (take end t))))
-  main-so = rw (a', b', c') refl
+  main-so = rw (a, b, c') refl
 
-  module _ (u : List ℕ) (r : Result (Unit {0}) Refusal) (w : Swept (sweep s h f (take k n) 0 (start sc un) (take end t)) end t u r) where
-    pub lent-no : {x : Refusal} → r ≡ Err x → (Bs : Spelled) → Holds s t end Bs → Resolves s Bs t u (Err x)
-    lent-no e Bs holds = swept-no s t end Bs holds (sym swept-so ∙ subst (λ r. Swept (sweep s h f (take k n) 0 (start sc un) (take end t)) end t u r) e w)
+  -- the words were swept to v, and what stood after them stays: the tape u
+  module _ (v : List ℕ) (r : Result (Unit {0}) Refusal) (w : Swept (sweep s h f (take k n) 0 (start (zeros 48) (zeros 48)) (take end t)) v r) where
+    pub names-wrong : {x : Refusal} → r ≡ Err x → (u : List ℕ) (Bs : Spelled) → Holds s t end Bs → Resolves s Bs t u (Err x)
+    names-wrong e u Bs holds = swept-no s t end Bs holds (sym swept-so ∙ subst (Swept (sweep s h f (take k n) 0 (start (zeros 48) (zeros 48)) (take end t)) v) e w)
 
-    pub lent-main : r ≡ Ok tt → (v : Result ℕ Refusal) → Answers (main_in s h f (take k n)) v → (Bs : Spelled) → Holds s t end Bs → Resolves s Bs t u v
-    lent-main e v g Bs holds = go v g
+    pub names-right : r ≡ Ok tt → length v ≡ end → (u : List ℕ) → u ≡ v ++ drop end t → (m : Result ℕ Refusal) → Answers (main_in s h f (take k n)) m → (Bs : Spelled) → Holds s t end Bs → Resolves s Bs t u m
+    names-right e l u is m g Bs holds = go m g
       where
-        y : Swept (sweep s h f (take k n) 0 (start sc un) (take end t)) end t u (Ok tt)
-        y = subst (λ r. Swept (sweep s h f (take k n) 0 (start sc un) (take end t)) end t u r) e w
+        front : take end u ≡ v
+        front = ap (take end) is ∙ subst (λ n. take n (v ++ drop end t) ≡ v) l (take-append_seam v (drop end t))
 
-        go : (v : Result ℕ Refusal) → Answers (main_in s h f (take k n)) v → Resolves s Bs t u v
-        go (Ok m) g = all_right s t end Bs holds u (sym swept-so ∙ y.0) y.1 y.2 (sym main-so ∙ g)
-        go (Err x) g = main-no s t end Bs holds u (sym swept-so ∙ y.0) y.1 y.2 (sym main-so ∙ g)
+        back : drop end u ≡ drop end t
+        back = ap (drop end) is ∙ subst (λ n. drop n (v ++ drop end t) ≡ drop end t) l (drop-append_seam v (drop end t))
+
+        whole : length u ≡ length t
+        whole = omega (arith, ap length is, length-append v (drop end t), length-drop end t, holds.size, holds.lies.fits)
+
+        y : sweep s h f (take k n) 0 (start (zeros 48) (zeros 48)) (take end t) ≡ ok (take end u)
+        y = subst (Swept (sweep s h f (take k n) 0 (start (zeros 48) (zeros 48)) (take end t)) v) e w ∙ ap ok (sym front)
+
+        go : (m : Result ℕ Refusal) → Answers (main_in s h f (take k n)) m → Resolves s Bs t u m
+        go (Ok m) g = all_right s t end Bs holds u (sym swept-so ∙ y) back whole (sym main-so ∙ g)
+        go (Err x) g = main-no s t end Bs holds u (sym swept-so ∙ y) back whole (sym main-so ∙ g)
 
 pub tape-there : (s t : List ℕ) (end : ℕ) → Readable s t end → end ≤ length t
 tape-there s t end r = omega (arith, r.holds.size, r.holds.lies.fits)
-
-pub row-64 : (n₀ n ws : List ℕ) → n₀ ≡ zeros 64 → n ≡ put n₀ 0 ws → length n ≤ 64
-row-64 n₀ n ws z e = omega (arith, ap length e, put-length ws n₀ 0, ap length z, zeros-length 64)
-
-pub row-48 : (n : List ℕ) → n ≡ zeros 48 → length n ≤ 48
-row-48 n z = omega (arith, ap length z, zeros-length 48)

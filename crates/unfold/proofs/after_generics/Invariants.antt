@@ -1,4 +1,4 @@
-use Prim.Native.Nat.{ℕ, ◌+◌, ◌-◌, ◌<◌}
+use Prim.Native.Nat.{ℕ, ◌+◌, ◌<◌}
 use Rattle.frames.specs.Runs.{Going}
 use Rattle.rules.specs.Outcome.{ok}
 use Rattle.rules.specs.Syntax.{Name, Block, Callee}
@@ -11,6 +11,3 @@ use Rattle.unfold.proofs.after_generics.Given as goal
 abbrev pub invariant-loop-i : goal.invariant-loop-i
 invariant-loop-i l =
     (B : Block ℕ Callee) → HereBlock l.tape l.at l.end B → (found : List Name) × (k : ℕ) × Going (λ n. ok n) generic_w (λ n. name_w n < 33554432) l.tape (l.at + 1) l.end 10 10 B.generics l.i k found
-
-abbrev pub decreases-loop-i : goal.decreases-loop-i
-decreases-loop-i l = l.end - l.i

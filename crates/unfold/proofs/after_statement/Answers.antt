@@ -12,8 +12,8 @@ after_parts-i-requires c = calm_of c.requires
 pub among-requires : goal.among-requires
 among-requires c = c.requires.here.limit
 
-pub after_body-requires : goal.after_body-requires
-after_body-requires c =
+pub body_at-requires : goal.body_at-requires
+body_at-requires c =
     let w = c.requires in
     let l = (beyond w.text w.statements w.here w.some c.after_parts-i.ensures (sym c.among.ensures ∙ c.if-among.true)).0 in
     (omega (arith, l, w.here.limit), omega (arith, l, w.here.short))
@@ -21,7 +21,7 @@ after_body-requires c =
 pub returns-then-among : goal.returns-then-among
 returns-then-among c len b h s =
     let r = beyond len b h s c.after_parts-i.ensures (sym c.among.ensures ∙ c.if-among.true) in
-    rw c.after_body.ensures (r.1, r.2)
+    rw c.body_at.ensures (r.1, r.2)
 
 pub returns : goal.returns
 returns c len b h s = onward len b h s c.after_parts-i.ensures (sym c.among.ensures ∙ c.if-among.false)

@@ -7,23 +7,23 @@ use Rattle.write.proofs.pieces.text.Goals as goal
 pub returns-in_err-piece : goal.returns-in_err-piece
 returns-in_err-piece g c =
     let laws = g.P.Pieces.laws in
-    let whole = parts-of c.args.net.now c.word-inputs.ensures c.word-outputs.ensures c.word-wires.ensures refl in
-    let w0 = begin laws c.args.to.now (parts c.args.net.now c.word-inputs.result c.word-outputs.result c.word-wires.result (gates c.args.net.now)) (sym whole) in
+    let whole = parts-of c.args.net.words.now c.inputs-inputs.ensures c.outputs-outputs.ensures c.wires.ensures refl in
+    let w0 = begin laws c.args.to.now (parts c.args.net.words.now c.inputs-inputs.result c.outputs-outputs.result c.wires.result (gates c.args.net.words.now)) (sym whole) in
     rw c.from_residual.ensures (stop laws w0 c.in_err-piece.ensures)
 
 pub returns-in_err-ports : goal.returns-in_err-ports
 returns-in_err-ports g c =
     let laws = g.P.Pieces.laws in
-    let whole = parts-of c.args.net.now c.word-inputs.ensures c.word-outputs.ensures c.word-wires.ensures refl in
-    let w0 = begin laws c.args.to.now (parts c.args.net.now c.word-inputs.result c.word-outputs.result c.word-wires.result (gates c.args.net.now)) (sym whole) in
+    let whole = parts-of c.args.net.words.now c.inputs-inputs.ensures c.outputs-outputs.ensures c.wires.ensures refl in
+    let w0 = begin laws c.args.to.now (parts c.args.net.words.now c.inputs-inputs.result c.outputs-outputs.result c.wires.result (gates c.args.net.words.now)) (sym whole) in
     let w1 = step laws w0 c.in_ok-piece.ensures in
     rw c.from_residual-in_err-ports.ensures (stop laws w1 c.in_err-ports.ensures)
 
 pub returns-in_err-piece-2 : goal.returns-in_err-piece-2
 returns-in_err-piece-2 g c =
     let laws = g.P.Pieces.laws in
-    let whole = parts-of c.args.net.now c.word-inputs.ensures c.word-outputs.ensures c.word-wires.ensures refl in
-    let w0 = begin laws c.args.to.now (parts c.args.net.now c.word-inputs.result c.word-outputs.result c.word-wires.result (gates c.args.net.now)) (sym whole) in
+    let whole = parts-of c.args.net.words.now c.inputs-inputs.ensures c.outputs-outputs.ensures c.wires.ensures refl in
+    let w0 = begin laws c.args.to.now (parts c.args.net.words.now c.inputs-inputs.result c.outputs-outputs.result c.wires.result (gates c.args.net.words.now)) (sym whole) in
     let w1 = step laws w0 c.in_ok-piece.ensures in
     let w2 = step laws w1 c.in_ok-ports.ensures in
     rw c.from_residual-in_err-piece-2.ensures (stop laws w2 c.in_err-piece-2.ensures)
@@ -31,8 +31,8 @@ returns-in_err-piece-2 g c =
 pub returns-in_err-ports-2 : goal.returns-in_err-ports-2
 returns-in_err-ports-2 g c =
     let laws = g.P.Pieces.laws in
-    let whole = parts-of c.args.net.now c.word-inputs.ensures c.word-outputs.ensures c.word-wires.ensures refl in
-    let w0 = begin laws c.args.to.now (parts c.args.net.now c.word-inputs.result c.word-outputs.result c.word-wires.result (gates c.args.net.now)) (sym whole) in
+    let whole = parts-of c.args.net.words.now c.inputs-inputs.ensures c.outputs-outputs.ensures c.wires.ensures refl in
+    let w0 = begin laws c.args.to.now (parts c.args.net.words.now c.inputs-inputs.result c.outputs-outputs.result c.wires.result (gates c.args.net.words.now)) (sym whole) in
     let w1 = step laws w0 c.in_ok-piece.ensures in
     let w2 = step laws w1 c.in_ok-ports.ensures in
     let w3 = step laws w2 c.in_ok-piece-2.ensures in
@@ -41,8 +41,8 @@ returns-in_err-ports-2 g c =
 pub returns-in_err-vars : goal.returns-in_err-vars
 returns-in_err-vars g c =
     let laws = g.P.Pieces.laws in
-    let whole = parts-of c.args.net.now c.word-inputs.ensures c.word-outputs.ensures c.word-wires.ensures refl in
-    let w0 = begin laws c.args.to.now (parts c.args.net.now c.word-inputs.result c.word-outputs.result c.word-wires.result (gates c.args.net.now)) (sym whole) in
+    let whole = parts-of c.args.net.words.now c.inputs-inputs.ensures c.outputs-outputs.ensures c.wires.ensures refl in
+    let w0 = begin laws c.args.to.now (parts c.args.net.words.now c.inputs-inputs.result c.outputs-outputs.result c.wires.result (gates c.args.net.words.now)) (sym whole) in
     let w1 = step laws w0 c.in_ok-piece.ensures in
     let w2 = step laws w1 c.in_ok-ports.ensures in
     let w3 = step laws w2 c.in_ok-piece-2.ensures in
@@ -52,8 +52,8 @@ returns-in_err-vars g c =
 pub returns-in_err-piece-3 : goal.returns-in_err-piece-3
 returns-in_err-piece-3 g c =
     let laws = g.P.Pieces.laws in
-    let whole = parts-of c.args.net.now c.word-inputs.ensures c.word-outputs.ensures c.word-wires.ensures refl in
-    let w0 = begin laws c.args.to.now (parts c.args.net.now c.word-inputs.result c.word-outputs.result c.word-wires.result (gates c.args.net.now)) (sym whole) in
+    let whole = parts-of c.args.net.words.now c.inputs-inputs.ensures c.outputs-outputs.ensures c.wires.ensures refl in
+    let w0 = begin laws c.args.to.now (parts c.args.net.words.now c.inputs-inputs.result c.outputs-outputs.result c.wires.result (gates c.args.net.words.now)) (sym whole) in
     let w1 = step laws w0 c.in_ok-piece.ensures in
     let w2 = step laws w1 c.in_ok-ports.ensures in
     let w3 = step laws w2 c.in_ok-piece-2.ensures in
@@ -64,8 +64,8 @@ returns-in_err-piece-3 g c =
 pub returns-in_err-gates : goal.returns-in_err-gates
 returns-in_err-gates g c =
     let laws = g.P.Pieces.laws in
-    let whole = parts-of c.args.net.now c.word-inputs.ensures c.word-outputs.ensures c.word-wires.ensures refl in
-    let w0 = begin laws c.args.to.now (parts c.args.net.now c.word-inputs.result c.word-outputs.result c.word-wires.result (gates c.args.net.now)) (sym whole) in
+    let whole = parts-of c.args.net.words.now c.inputs-inputs.ensures c.outputs-outputs.ensures c.wires.ensures refl in
+    let w0 = begin laws c.args.to.now (parts c.args.net.words.now c.inputs-inputs.result c.outputs-outputs.result c.wires.result (gates c.args.net.words.now)) (sym whole) in
     let w1 = step laws w0 c.in_ok-piece.ensures in
     let w2 = step laws w1 c.in_ok-ports.ensures in
     let w3 = step laws w2 c.in_ok-piece-2.ensures in
@@ -77,8 +77,8 @@ returns-in_err-gates g c =
 pub returns : goal.returns
 returns g c =
     let laws = g.P.Pieces.laws in
-    let whole = parts-of c.args.net.now c.word-inputs.ensures c.word-outputs.ensures c.word-wires.ensures refl in
-    let w0 = begin laws c.args.to.now (parts c.args.net.now c.word-inputs.result c.word-outputs.result c.word-wires.result (gates c.args.net.now)) (sym whole) in
+    let whole = parts-of c.args.net.words.now c.inputs-inputs.ensures c.outputs-outputs.ensures c.wires.ensures refl in
+    let w0 = begin laws c.args.to.now (parts c.args.net.words.now c.inputs-inputs.result c.outputs-outputs.result c.wires.result (gates c.args.net.words.now)) (sym whole) in
     let w1 = step laws w0 c.in_ok-piece.ensures in
     let w2 = step laws w1 c.in_ok-ports.ensures in
     let w3 = step laws w2 c.in_ok-piece-2.ensures in

@@ -1,7 +1,0 @@
-use lib.Seq.{length-take-le}
-use mathlib.Core.Path.{sym}
-use native.Mathlib.Omega.{arith}
-use Rattle.drive.proofs.output.flush.Goals as goal
-
-pub slice_bounds-write_all-end : goal.slice_bounds-write_all-end
-slice_bounds-write_all-end c = sym (length-take-le _ _ (omega arith))
