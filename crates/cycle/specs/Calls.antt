@@ -21,43 +21,36 @@ use Rattle.frames.specs.declared.Frame.{Frame}
 use Rattle.frames.specs.Stands.{Stands}
 use Rattle.frames.specs.Fresh.{up_to}
 use Rattle.gates.specs.declared.Counts.{Counts}
-use Rattle.gates.specs.declared.Step.{Step}
-use Rattle.gates.specs.declared.Step.TheVariants.{Done as Went, Wrong as Stopped}
+use Rattle.std.specs.Prelude.{Result, Ok, Err}
+use Rattle.rules.specs.declared.Reason.{Reason}
+use Rattle.rules.specs.declared.Refusal.{Refusal}
+use Rattle.rules.specs.Reasons.{number as number_of}
 use Rattle.gates.specs.Shows.{Gives}
-use Rattle.unfold.specs.declared.Entry.{Entry}
-use Rattle.unfold.specs.declared.Entry.TheVariants.{Body, Wrong}
-use Rattle.unfold.specs.declared.Head.{Head}
-use Rattle.unfold.specs.declared.Head.TheVariants.{Gate, Block as Called, Loop}
+use Rattle.unfold.specs.declared.Opened.{Opened}
+use Rattle.unfold.specs.declared.What.{What}
+use Rattle.unfold.specs.declared.What.TheVariants.{Gate, Block as Called, Loop}
 use Rattle.unfold.specs.Header.{body_w}
 use Rattle.unfold.specs.Entering.{HereCall}
 use Rattle.unfold.specs.Opening.{opened, Open, Opens, WrittenOpen}
 use Rattle.unfold.specs.Adding.{added, Fits, WrittenGate}
 use Rattle.unfold.specs.Statements.{HereStmts, Named, call-here}
-use Rattle.unfold.specs.Onward.{alone, IsCall, IsLoop, Heads}
+use Rattle.unfold.specs.Onward.{alone, IsCall, IsLoop, IsWhat}
 use Rattle.unfold.specs.Scope.{named-of, many-of, named-both}
 use Rattle.unfold.specs.Steps.{opened-parts, added-parts, block-opened, block_refused, gate-added, gate-refused}
-use Rattle.cycle.specs.declared.Out.{Out}
-use Rattle.cycle.specs.declared.Out.TheVariants.{Done, No}
 use Rattle.cycle.specs.Task.{Task, Ready, Answers, then-end, at-end}
 
 -- a step's answer, at a place
-unfoldable pub answered : Step → ℕ → Out
-answered (Went s) p = Done s
-answered (Stopped n) p = No n p
-
--- the place of a statement
-unfoldable pub place_in : Head → ℕ
-place_in (Gate k p) = p
-place_in (Called b p) = p
-place_in (Loop i p) = p
+abbrev pub answered : Result Counts Reason → ℕ → Result Counts Refusal
+answered (Ok s) p = Ok s
+answered (Err e) p = Err (record { reason = e; place = p })
 
 -- 15 at a statement
-pub late : (nin left : ℕ) (P : Program) (c : Stmts ℕ Callee) (ρ : Env) (σ : Names Range) (v : State) (h : Head) {k : ℕ} → Heads c h → tick v ≡ refuse k 0
-    → unfolds nin (deep nin P left) (alone c) ρ σ v ≡ refuse k (place_in h)
-unfolding Heads place_in alone
-late nin left P c ρ σ v (Gate k p) (l, h) e = rw h.is (call-late nin (deep nin P left) p _ _ _ end ρ σ v (gate k) e)
-late nin left P c ρ σ v (Called b p) (l, h) e = rw h.is (call-late nin (deep nin P left) p _ _ _ end ρ σ v (block b) e)
-late nin left P c ρ σ v (Loop i p) (l, h) e = rw h.is (loop-late nin (deep nin P left) p i _ _ _ end ρ σ v e)
+pub late : (nin left : ℕ) (P : Program) (c : Stmts ℕ Callee) (ρ : Env) (σ : Names Range) (v : State) (p : ℕ) (w : What) {k : ℕ} → IsWhat c p w → tick v ≡ refuse k 0
+    → unfolds nin (deep nin P left) (alone c) ρ σ v ≡ refuse k p
+unfolding IsWhat alone
+late nin left P c ρ σ v p (Gate k) (l, h) e = rw h.is (call-late nin (deep nin P left) p _ _ _ end ρ σ v (gate k) e)
+late nin left P c ρ σ v p (Called b) (l, h) e = rw h.is (call-late nin (deep nin P left) p _ _ _ end ρ σ v (block b) e)
+late nin left P c ρ σ v p (Loop i) (l, h) e = rw h.is (loop-late nin (deep nin P left) p i _ _ _ end ρ σ v e)
 
 suits-many : (σ : Names Range) (E : List Role) → Suits σ E → length E ≡ length σ
 unfolding Suits
@@ -136,10 +129,10 @@ unfolding emit
 emit-next nin g s e = inv _ _ e λ _ _ e₁. inv _ _ e₁ λ _ _ e₂. ap (λ u. u.next) (sym (ok-inj e₂))
 
 -- the gate's step is the call's answer
-pub gate-answers : (nin left : ℕ) (P : Program) (ρ : Env) (σ : Names Range) (v v₁ : State) {t : List ℕ} {at end₁ k p : ℕ} {c : Stmts ℕ Callee} (r : Step) (net : List ℕ) (marks : List Bool) (g : GateHere t at end₁ ρ σ k p c) → tick v ≡ ok v₁ → v₁.next ≤ 1536
+pub gate-answers : (nin left : ℕ) (P : Program) (ρ : Env) (σ : Names Range) (v v₁ : State) {t : List ℕ} {at end₁ k p : ℕ} {c : Stmts ℕ Callee} (r : Result Counts Reason) (net : List ℕ) (marks : List Bool) (g : GateHere t at end₁ ρ σ k p c) → tick v ≡ ok v₁ → v₁.next ≤ 1536
     → Gives (added nin k ρ σ g.call.generics (g.call.inputs ++ g.call.outputs) v₁) r net marks → Answers (unfolds nin (deep nin P left) (alone c) ρ σ v) (answered r p) net marks
-unfolding Gives Answers answered
-gate-answers nin left P ρ σ v v₁ {k = k} {p = p} (Went s) net marks g e few (u, a, shows) =
+unfolding Gives Answers
+gate-answers nin left P ρ σ v v₁ {k = k} {p = p} (Ok s) net marks g e few (u, a, shows) =
     let gs = g.call.generics in
     let b = added-parts nin k ρ σ gs (g.call.inputs ++ g.call.outputs) v₁ a in (
       u,
@@ -147,7 +140,7 @@ gate-answers nin left P ρ σ v v₁ {k = k} {p = p} (Went s) net marks g e few 
       shows,
       omega (arith, few, emit-next nin _ v₁ b.emit),
     )
-gate-answers nin left P ρ σ v v₁ {k = k} {p = p} (Stopped n) net marks g e few a =
+gate-answers nin left P ρ σ v v₁ {k = k} {p = p} (Err n) net marks g e few a =
     ap (λ c. unfolds nin (deep nin P left) c ρ σ v) g.call.is ∙ gate-refused nin (deep nin P left) p g.call.generics g.call.inputs g.call.outputs end ρ σ v k e a
 
 -- ---- a block
@@ -234,26 +227,26 @@ module _ {len : ℕ} {P : Program} {t places : List ℕ} {last at end₁ : ℕ} 
 
 -- ---- what `open` says, by its answer
 
-pub opens-body : (ρ : Env) (σ : Names Range) (gs : List (Exp ℕ)) (args : List (Arg ℕ)) (B : Block ℕ Callee) (s : State) (place place' : ℕ) (e : Entry) (f : Frame) {from to w : ℕ} → place ≡ place' → e ≡ Body from to w
-    → Opens ρ σ gs args B s place e f → Open ρ σ gs args B s place' from to w f
+pub opens-body : (ρ : Env) (σ : Names Range) (gs : List (Exp ℕ)) (args : List (Arg ℕ)) (B : Block ℕ Callee) (s : State) (place : ℕ) (r : Result Opened Reason) {q : Opened} → r ≡ Ok q
+    → Opens ρ σ gs args B s place r → Open ρ σ gs args B s place q.body.at q.body.end q.wires q.frame
 unfolding Opens
-opens-body ρ σ gs args B s place place' e f {from} {to} {w} x y o = subst (λ q. Open ρ σ gs args B s q from to w f) x (subst (λ e. Opens ρ σ gs args B s place e f) y o)
+opens-body ρ σ gs args B s place r e o = subst (λ e. Opens ρ σ gs args B s place e) e o
 
-pub opens-wrong : (ρ : Env) (σ : Names Range) (gs : List (Exp ℕ)) (args : List (Arg ℕ)) (B : Block ℕ Callee) (s : State) (place : ℕ) (e : Entry) (f : Frame) {k : ℕ} → e ≡ Wrong k → Opens ρ σ gs args B s place e f
-    → (q : ℕ) × (opened ρ σ gs args B s ≡ refuse k q)
+pub opens-wrong : (ρ : Env) (σ : Names Range) (gs : List (Exp ℕ)) (args : List (Arg ℕ)) (B : Block ℕ Callee) (s : State) (place : ℕ) (r : Result Opened Reason) {e : Reason} → r ≡ Err e
+    → Opens ρ σ gs args B s place r → (q : ℕ) × (opened ρ σ gs args B s ≡ refuse (number_of e) q)
 unfolding Opens
-opens-wrong ρ σ gs args B s place e f {k} y o = subst (λ e. Opens ρ σ gs args B s place e f) y o
+opens-wrong ρ σ gs args B s place r e o = subst (λ e. Opens ρ σ gs args B s place e) e o
 
 -- ---- what the first word says, by its kind
 
-pub is-gate : (c : Stmts ℕ Callee) (h : Head) {k p : ℕ} → h ≡ Gate k p → Heads c h → (k < 10) × IsCall (gate k) p c
-unfolding Heads
-is-gate c h e a = subst (Heads c) e a
+pub is-gate : (c : Stmts ℕ Callee) (p : ℕ) (w : What) {k : ℕ} → w ≡ Gate k → IsWhat c p w → (k < 10) × IsCall (gate k) p c
+unfolding IsWhat
+is-gate c p w e a = subst (IsWhat c p) e a
 
-pub is_block : (c : Stmts ℕ Callee) (h : Head) {b p : ℕ} → h ≡ Called b p → Heads c h → (b < 64) × IsCall (block b) p c
-unfolding Heads
-is_block c h e a = subst (Heads c) e a
+pub is_block : (c : Stmts ℕ Callee) (p : ℕ) (w : What) {b : ℕ} → w ≡ Called b → IsWhat c p w → (b < 64) × IsCall (block b) p c
+unfolding IsWhat
+is_block c p w e a = subst (IsWhat c p) e a
 
-pub is_loop : (c : Stmts ℕ Callee) (h : Head) {i p : ℕ} → h ≡ Loop i p → Heads c h → (i < 48) × IsLoop i p c
-unfolding Heads
-is_loop c h e a = subst (Heads c) e a
+pub is_loop : (c : Stmts ℕ Callee) (p : ℕ) (w : What) {i : ℕ} → w ≡ Loop i → IsWhat c p w → (i < 48) × IsLoop i p c
+unfolding IsWhat
+is_loop c p w e a = subst (IsWhat c p) e a

@@ -1,7 +1,13 @@
 -- A loop and its rounds: what the code has in hand, and what its answers say. Assumes nothing.
-use Rattle.std.specs.Prelude.{◌≡◌, refl, ℕ, suc, ◌+◌, ◌-◌, ◌≤◌, ◌<◌, Bool, List, map, length, get_or, ℤ, nat_abs, ◌-ℤ◌}
+use Rattle.std.specs.Prelude.{◌≡◌, refl, ℕ, suc, ◌+◌, ◌-◌, ◌≤◌, ◌<◌, Bool, List, map, length, get_or, zero, ℤ, pos, negsuc, nat_abs, ◌+ℤ◌, ◌-ℤ◌}
 use Rattle.std.proofs.Math.Path.{sym, ap}
-use Rattle.std.proofs.Common.{◌∙◌, subst}
+use Rattle.std.proofs.Common.{◌∙◌, subst, lt-ltb, SFits, w32}
+use Rattle.std.proofs.lemmas.Int.{ints, to_z-of_z, to_z_pos}
+use Prim.Native.Nat.{◌^◌}
+use mathlib.Core.Bool.{true, false, cond}
+use lib.Dec.{ltb}
+use lib.Signed.{mag}
+use mir.Val.{to_z, of_z, hbits}
 use native.Mathlib.Omega.{arith}
 use Rattle.std.proofs.Math.IntN.{suc_ℤ}
 use Rattle.rules.specs.Names.{Role}
@@ -16,9 +22,12 @@ use Rattle.rules.proofs.Laws.Scoped.{ports_of, StmtsOk}
 use Rattle.tape.specs.Layout.{value_of}
 use Rattle.tape.specs.Encoding.{exp_w}
 use Rattle.tape.specs.Resolved.{slot_w}
-use Rattle.values.specs.Loops.{HereTwo, WrittenTwo, Turns, both-bounds, eval-small, rounds-small}
+use Rattle.values.specs.Pairs.{HereTwo, WrittenTwo, both-bounds}
+use Rattle.values.specs.Loops.{Turns, eval-small, rounds-small}
 use Rattle.values.specs.declared.Rounds.{Rounds}
-use Rattle.values.specs.declared.Rounds.TheVariants.{From, Wrong}
+use Rattle.std.specs.Prelude.{Result, Ok, Err}
+use Rattle.rules.specs.declared.Reason.{Reason}
+use Rattle.rules.specs.Reasons.{number as number_of}
 use Rattle.frames.specs.declared.Frame.{Frame}
 use Rattle.frames.specs.Stands.{eval-knows}
 use Rattle.gates.specs.declared.Counts.{Counts}
@@ -27,7 +36,6 @@ use Rattle.unfold.specs.Loops.{body_at, loop-ends, loop-many, loop-bounds, loop-
 use Rattle.unfold.specs.Onward.{alone, IsLoop}
 use Rattle.unfold.specs.Statements.{HereStmts}
 use Rattle.unfold.specs.Steps.{loop-refused}
-use Rattle.cycle.specs.declared.Out.TheVariants.{Done}
 use Rattle.cycle.specs.Task.{Task, Answers, then-end}
 
 -- a loop over index i at p
@@ -92,19 +100,19 @@ module _ {len : ℕ} {P : Program} {t places : List ℕ} {last at end₁ : ℕ} 
     abbrev here-is : unfolds nin (deep nin P left) (alone c) ρ σ v ≡ unfolds nin (deep nin P left) (loop p i h.first h.second h.body end) ρ σ v
     here-is = ap (λ c. unfolds nin (deep nin P left) c ρ σ v) h.is
 
-    known-first : eval (generics f.value) h.first ≡ eval ρ h.first
+    known-first : eval (generics f.values) h.first ≡ eval ρ h.first
     known-first = eval-knows 2 h.first task.stands.value h.two.first.grouped
 
-    known-second : eval (generics f.value) h.second ≡ eval ρ h.second
+    known-second : eval (generics f.values) h.second ≡ eval ρ h.second
     known-second = eval-knows 2 h.second task.stands.value h.two.second.grouped
 
     -- a bound out of range
-    pub loop-stopped : {k : ℕ} → both-bounds (generics f.value) h.first h.second ≡ refuse k 0 → unfolds nin (deep nin P left) (alone c) ρ σ v ≡ refuse k p
+    pub loop-stopped : {k : ℕ} → both-bounds (generics f.values) h.first h.second ≡ refuse k 0 → unfolds nin (deep nin P left) (alone c) ρ σ v ≡ refuse k p
     loop-stopped {k} b =
         here-is ∙ loop-refused nin (deep nin P left) p i h.first h.second h.body end ρ σ v e (rw (known-first, known-second) at b)
 
     -- "bounds", worked out once
-    pub loop-turned : {x y : ℤ} → eval (generics f.value) h.first ≡ ok x → eval (generics f.value) h.second ≡ ok y
+    pub loop-turned : {x y : ℤ} → eval (generics f.values) h.first ≡ ok x → eval (generics f.values) h.second ≡ ok y
         → unfolds nin (deep nin P left) (alone c) ρ σ v ≡ turns p (round nin left P i h.body ρ σ) x (rounds (y -ℤ x)) v₁
     loop-turned a b =
         here-is ∙ loop-rounds nin (deep nin P left) p i h.first h.second h.body end ρ σ v e (sym known-first ∙ a) (sym known-second ∙ b)
@@ -121,14 +129,14 @@ pub record Spanned (ρ : Env) (a b : Exp ℕ) (at : ℕ) (x : ℤ) (k m : ℕ) :
   pub small : nat_abs x ≤ 1000000
   pub few : k ≤ 2000001
 
-pub spanned : (ρ : Env) (a b : Exp ℕ) (n place : ℕ) (r : Rounds) {x : ℤ} {k m : ℕ} → place ≡ n → r ≡ From x k m → Turns ρ a b n r → Spanned ρ a b place x k m
+pub spanned : (ρ : Env) (a b : Exp ℕ) (n place : ℕ) (r : Result Rounds Reason) {q : Rounds} → place ≡ n → r ≡ Ok q → Turns ρ a b n r → Spanned ρ a b place q.first q.count q.next
 unfolding Turns
-spanned ρ a b n place r {x} {k} {m} p e t =
+spanned ρ a b n place r {q} p e t =
     let (y, ea, eb, ek, em) = subst (Turns ρ a b n) e t in
     let u = eval-small ρ a ea in
-    record { to = y; left = ea; right = eb; count = ek; place = em ∙ sym p; small = u; few = omega (arith, ek, rounds-small x y u (eval-small ρ b eb)) }
+    record { to = y; left = ea; right = eb; count = ek; place = em ∙ sym p; small = u; few = omega (arith, ek, rounds-small q.first y u (eval-small ρ b eb)) }
 
-pub not-spanned : (ρ : Env) (a b : Exp ℕ) (n : ℕ) (r : Rounds) {k : ℕ} → r ≡ Wrong k → Turns ρ a b n r → both-bounds ρ a b ≡ refuse k 0
+pub not-spanned : (ρ : Env) (a b : Exp ℕ) (n : ℕ) (r : Result Rounds Reason) {e : Reason} → r ≡ Err e → Turns ρ a b n r → both-bounds ρ a b ≡ refuse (number_of e) 0
 unfolding Turns
 not-spanned ρ a b n r e t = subst (Turns ρ a b n) e t
 
@@ -171,7 +179,7 @@ module _ (nin left len : ℕ) (P : Program) (t places : List ℕ) (last at end�
     pub turning-stop : k < count → {n q : ℕ} → rounded nin left P i p c ρ σ x g.state ≡ refuse n q → turns p (round nin left P i c ρ σ) first count v ≡ refuse n q
     turning-stop l e = next-is l ∙ refused _ e
 
-    pub turning-on : k < count → (u : Counts) (net' : List ℕ) (marks' : List Bool) → Answers (rounded nin left P i p c ρ σ x g.state) (Done u) net' marks' → Turning nin left len P t places last at end₁ f i p c ρ σ v first count (k + 1) (suc_ℤ x) u net' marks'
+    pub turning-on : k < count → (u : Counts) (net' : List ℕ) (marks' : List Bool) → Answers (rounded nin left P i p c ρ σ x g.state) (Ok u) net' marks' → Turning nin left len P t places last at end₁ f i p c ρ σ v first count (k + 1) (suc_ℤ x) u net' marks'
     unfolding Answers
     turning-on l u net' marks' (w, e, shows, few) = record {
       state = w;
@@ -179,8 +187,42 @@ module _ (nin left len : ℕ) (P : Program) (t places : List ℕ) (last at end�
       same = next-is l ∙ went _ e;
     }
 
-    pub turning-end : count ≤ k → Answers (turns p (round nin left P i c ρ σ) first count v) (Done s) net marks
+    pub turning-end : count ≤ k → Answers (turns p (round nin left P i c ρ σ) first count v) (Ok s) net marks
     unfolding Answers turns
     turning-end l =
         let e : count - k ≡ 0 = omega arith in
         (g.state, g.same ∙ ap (λ n. turns p (round nin left P i c ρ σ) x n g.state) e, g.task.shows, g.task.wires)
+
+-- ---- the index of each round
+
+one_more : (v : ℤ) → v +ℤ pos 1 ≡ suc_ℤ v
+one_more (pos n) = let e : n + 1 ≡ suc n = omega arith in ap pos e
+one_more (negsuc zero) = refl
+one_more (negsuc (suc n)) =
+    let l : 1 < suc (suc n) = omega arith in
+    let e : suc (suc n) - 2 ≡ n = omega arith in
+    rw (lt-ltb 1 (suc (suc n)) l) (ap negsuc e)
+
+pub first-index : (v : ℤ) → v +ℤ pos 0 ≡ v
+first-index v = omega (arith, ints)
+
+pub next-index : (v : ℤ) (k : ℕ) → suc_ℤ (v +ℤ pos k) ≡ v +ℤ pos (k + 1)
+next-index v k = sym (one_more (v +ℤ pos k)) ∙ omega (arith, ints)
+
+-- it fits 32 bits, as the code works it out
+apart : (t : Bool) (u w n : ℕ) → u < n → w < n → mag (cond t (negsuc u) (pos w)) < n
+apart true u w n h l = h
+apart false u w n h l = l
+
+index-fits : (v : ℤ) (k : ℕ) → nat_abs v ≤ 1000000 → k ≤ 2000001 → SFits w32 (v +ℤ pos k)
+index-fits (pos n) k h l = record { sfits = omega arith }
+index-fits (negsuc n) k h l = record { sfits = apart (ltb k (suc n)) (suc n - suc k) (k - suc n) (2 ^ 31) (omega arith) (omega arith) }
+
+first-fits : (v : ℤ) → nat_abs v ≤ 1000000 → SFits w32 v
+first-fits (pos n) h = record { sfits = omega arith }
+first-fits (negsuc n) h = record { sfits = omega arith }
+
+pub index-is : (v : ℤ) (k : ℕ) → nat_abs v ≤ 1000000 → k ≤ 2000001 → to_z w32 (of_z w32 (to_z w32 (of_z w32 v) +ℤ to_z w32 k)) ≡ v +ℤ pos k
+index-is v k h l =
+    let f : k < 2 ^ hbits w32 = omega arith in
+    rw (to_z-of_z w32 v (first-fits v h), to_z_pos w32 k f) (to_z-of_z w32 (v +ℤ pos k) (index-fits v k h l))

@@ -15,14 +15,14 @@ use Rattle.tape.specs.Encoding.{stmts_w}
 use Rattle.frames.specs.declared.Frame.{Frame}
 use Rattle.frames.specs.Stands.{Stands}
 use Rattle.gates.specs.declared.Counts.{Counts}
-use Rattle.gates.specs.declared.Step.{Step}
-use Rattle.gates.specs.declared.Step.TheVariants.{Done as Went, Wrong as Stopped}
+use Rattle.std.specs.Prelude.{Result, Ok, Err}
+use Rattle.rules.specs.declared.Reason.{Reason}
+use Rattle.rules.specs.declared.Refusal.{Refusal}
+use Rattle.rules.specs.Reasons.{number as number_of}
 use Rattle.gates.specs.Shows.{Shows, Gives}
 use Rattle.unfold.specs.Statements.{HereStmts}
 use Rattle.unfold.specs.Onward.{later, alone, WrittenStatement}
 use Rattle.unfold.specs.Shelf.{Shelf}
-use Rattle.cycle.specs.declared.Out.{Out}
-use Rattle.cycle.specs.declared.Out.TheVariants.{Done, No}
 
 -- the program P on the tape t; the statements c from `at` to `end`, in a use whose names are σ and whose values are ρ; the state v so far
 pub record Task (len : ℕ) (P : Program) (t places : List ℕ) (last at end : ℕ) (f : Frame) (s : Counts) (net : List ℕ) (marks : List Bool) (c : Stmts ℕ Callee) (ρ : Env) (σ : Names Range) (v : State) : Type 0 where
@@ -47,22 +47,26 @@ pub record Ready (t places : List ℕ) (last at end : ℕ) (f : Frame) (s : Coun
   pub room : 5124 ≤ length net
 
 -- what is answered and left, where the rules give o
-unfoldable pub Answers : Outcome State → Out → List ℕ → List Bool → Type 0
-Answers o (Done s) net marks = (v : State) × (o ≡ ok v) × Shows v s net marks × (v.next ≤ 1536)
-Answers o (No n p) net marks = o ≡ refuse n p
+unfoldable pub Answers : Outcome State → Result Counts Refusal → List ℕ → List Bool → Type 0
+Answers o (Ok s) net marks = (v : State) × (o ≡ ok v) × Shows v s net marks × (v.next ≤ 1536)
+Answers o (Err e) net marks = o ≡ refuse (number_of e.reason) e.place
 
-pub no_answer : {o : Outcome State} {n p : ℕ} (net : List ℕ) (marks : List Bool) → o ≡ refuse n p → Answers o (No n p) net marks
+pub no_answer : {o : Outcome State} (e : Refusal) (net : List ℕ) (marks : List Bool) → o ≡ refuse (number_of e.reason) e.place → Answers o (Err e) net marks
 unfolding Answers
-no_answer net marks e = e
+no_answer e net marks h = h
 
-pub refusal : {o : Outcome State} {r : Out} {n p : ℕ} (net : List ℕ) (marks : List Bool) → r ≡ No n p → Answers o r net marks → o ≡ refuse n p
+pub placed : {o : Outcome State} (e : Refusal) (net : List ℕ) (marks : List Bool) {p : ℕ} → e.place ≡ p → o ≡ refuse (number_of e.reason) p → Answers o (Err e) net marks
+unfolding Answers
+placed e net marks q h = rw q h
+
+pub refusal : {o : Outcome State} {r : Result Counts Refusal} {e : Refusal} (net : List ℕ) (marks : List Bool) → r ≡ Err e → Answers o r net marks → o ≡ refuse (number_of e.reason) e.place
 unfolding Answers
 refusal {o} net marks e a = subst (λ r. Answers o r net marks) e a
 
-pub answers-as : {o q : Outcome State} (r : Out) (net : List ℕ) (marks : List Bool) → o ≡ q → Answers q r net marks → Answers o r net marks
+pub answers-as : {o q : Outcome State} (r : Result Counts Refusal) (net : List ℕ) (marks : List Bool) → o ≡ q → Answers q r net marks → Answers o r net marks
 answers-as r net marks e a = subst (λ o. Answers o r net marks) (sym e) a
 
-pub success : (o : Outcome State) {r : Out} {s : Counts} (net : List ℕ) (marks : List Bool) → r ≡ Done s → Answers o r net marks → Answers o (Done s) net marks
+pub success : (o : Outcome State) {r : Result Counts Refusal} {s : Counts} (net : List ℕ) (marks : List Bool) → r ≡ Ok s → Answers o r net marks → Answers o (Ok s) net marks
 success o net marks e a = subst (λ r. Answers o r net marks) e a
 
 -- ---- a list of statements: the first, then the others
@@ -105,7 +109,7 @@ module _ (nin left len : ℕ) (P : Program) (t places : List ℕ) (last end₁ :
     pub going-stop : {n p : ℕ} → unfolds nin (deep nin P left) (alone g.rest) ρ σ g.state ≡ refuse n p → unfolds nin (deep nin P left) c ρ σ v ≡ refuse n p
     going-stop e = g.same ∙ first_then nin (deep nin P left) ρ σ g.rest g.state ∙ refused _ e
 
-    pub going_on : {j : ℕ} {u : Counts} {net' : List ℕ} {marks' : List Bool} → Answers (unfolds nin (deep nin P left) (alone g.rest) ρ σ g.state) (Done u) net' marks'
+    pub going_on : {j : ℕ} {u : Counts} {net' : List ℕ} {marks' : List Bool} → Answers (unfolds nin (deep nin P left) (alone g.rest) ρ σ g.state) (Ok u) net' marks'
         → HereStmts len t j end₁ (later g.rest) → Going nin left len P t places last end₁ f c ρ σ v j u net' marks'
     unfolding Answers
     going_on (w, e, shows, few) h = record {
@@ -121,7 +125,7 @@ module _ (nin left len : ℕ) (P : Program) (t places : List ℕ) (last end₁ :
     none_left (call p m gs ins outs rest) h l = absurd (omega (arith, h.ends))
     none_left (loop p k a b body rest) h l = absurd (omega (arith, h.ends))
 
-    pub going_end : end₁ ≤ i → Answers (unfolds nin (deep nin P left) c ρ σ v) (Done s) net marks
+    pub going_end : end₁ ≤ i → Answers (unfolds nin (deep nin P left) c ρ σ v) (Ok s) net marks
     unfolding Answers
     going_end l = (
       g.state,
@@ -146,7 +150,7 @@ pub record Ticked (len : ℕ) (P : Program) (t places : List ℕ) (last at end :
   pub task : Task len P t places last at end f s net marks c ρ σ state
 
 pub ticked : {len : ℕ} {P : Program} {t places : List ℕ} {last at end₁ : ℕ} {f : Frame} {s : Counts} {net : List ℕ} {marks : List Bool} {c : Stmts ℕ Callee} {ρ : Env} {σ : Names Range} {v : State} (u : Counts)
-    → Task len P t places last at end₁ f s net marks c ρ σ v → Gives (tick v) (Went u) net marks → Ticked len P t places last at end₁ f u net marks c ρ σ v
+    → Task len P t places last at end₁ f s net marks c ρ σ v → Gives (tick v) (Ok u) net marks → Ticked len P t places last at end₁ f u net marks c ρ σ v
 unfolding Gives
 ticked {v = v} u k (w, e, shows) = record {
   state = w;
@@ -155,14 +159,14 @@ ticked {v = v} u k (w, e, shows) = record {
 }
 
 -- what a step's function says of every state that it is shown
-abbrev pub Steps : Counts → Step → Type 0
+abbrev pub Steps : Counts → Result Counts Reason → Type 0
 Steps s r = (v : State) (net : List ℕ) (marks : List Bool) → Shows v s net marks → Gives (tick v) r net marks
 
-pub ticked-by : {len : ℕ} {P : Program} {t places : List ℕ} {last at end₁ : ℕ} {f : Frame} {s : Counts} {net : List ℕ} {marks : List Bool} {c : Stmts ℕ Callee} {ρ : Env} {σ : Names Range} {v : State} {r : Step} {u : Counts}
-    → r ≡ Went u → Steps s r → Task len P t places last at end₁ f s net marks c ρ σ v → Ticked len P t places last at end₁ f u net marks c ρ σ v
+pub ticked-by : {len : ℕ} {P : Program} {t places : List ℕ} {last at end₁ : ℕ} {f : Frame} {s : Counts} {net : List ℕ} {marks : List Bool} {c : Stmts ℕ Callee} {ρ : Env} {σ : Names Range} {v : State} {r : Result Counts Reason} {u : Counts}
+    → r ≡ Ok u → Steps s r → Task len P t places last at end₁ f s net marks c ρ σ v → Ticked len P t places last at end₁ f u net marks c ρ σ v
 ticked-by {s = s} {net = net} {marks = marks} {v = v} {u = u} e h k = ticked u k (subst (Steps s) e h v net marks k.shows)
 
-pub late_by : {v : State} {s : Counts} {net : List ℕ} {marks : List Bool} {r : Step} {n : ℕ} → r ≡ Stopped n → Steps s r → Shows v s net marks → tick v ≡ refuse n 0
+pub late_by : {v : State} {s : Counts} {net : List ℕ} {marks : List Bool} {r : Result Counts Reason} {e : Reason} → r ≡ Err e → Steps s r → Shows v s net marks → tick v ≡ refuse (number_of e) 0
 unfolding Gives
 late_by {v} {s} {net} {marks} e h k = subst (Steps s) e h v net marks k
 

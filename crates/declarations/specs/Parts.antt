@@ -1,5 +1,5 @@
 -- Laws of the declarations of a block. Assumes nothing.
-use Rattle.std.specs.Prelude.{◌≡◌, ℕ, ◌+◌, ◌≤◌, ◌<◌, true, false, List, length, set}
+use Rattle.std.specs.Prelude.{◌≡◌, ℕ, ◌+◌, ◌≤◌, ◌<◌, true, false, Result, Ok, Err, List, length, set}
 use Rattle.std.proofs.Math.Path.{refl}
 use Rattle.std.proofs.Common.{◌∙◌, lt-ltb, le-ltb}
 use Rattle.rules.specs.Text.{pick}
@@ -12,7 +12,7 @@ use Rattle.tape.specs.Layout.{pack, GENERIC, spelt, name_w}
 use Rattle.tape.specs.Encoding.{sort_w, decl_w, generic_w}
 use Rattle.tape.specs.Written.{Got, Gives, none, stored, later, as-words}
 use Rattle.tape.specs.declared.Read.{Read}
-use Rattle.tape.specs.declared.Read.TheVariants.{Done, No}
+use Rattle.rules.specs.declared.Refusal.{Refusal}
 use Rattle.marks.specs.Marks.{is_code}
 use Rattle.marks.specs.Laws.One.{on, stop, there, absent, spelt_is}
 use Rattle.expressions.specs.Words.{bounds_w}
@@ -46,16 +46,16 @@ module _ (s : List ℕ) (k v at : ℕ) where
   unfolding a_type
   wire-off o m = absent "VECTOR" s at _ _ o ∙ stop _ _ _ m
 
-  pub vector-gives : {a : ℕ} → (is_code 10 (word_at s at) ≡ true) × (after (word_at s at) ≡ a) → (t u w : List ℕ) (to : ℕ) → u ≡ set t to (pack k 1 v) → (r : Read) → Vectors s a u (to + 1) w r
+  pub vector-gives : {a : ℕ} → (is_code 10 (word_at s at) ≡ true) × (after (word_at s at) ≡ a) → (t u w : List ℕ) (to : ℕ) → u ≡ set t to (pack k 1 v) → (r : Result Read Refusal) → Vectors s a u (to + 1) w r
       → Gives none (sort_w name_w k v) (a_type s at) t to w r
   unfolding a_type sort_w
-  vector-gives o t u w to e (Done n m c) d = record {
+  vector-gives o t u w to e (Ok r) d = record {
     value = vector d.low d.high;
     reads = there "VECTOR" s at _ _ o ∙ d.reads;
     wrote = later (stored e) d.wrote;
     counts = d.size;
   }
-  vector-gives o t u w to e (No i j) d = there "VECTOR" s at _ _ o ∙ d
+  vector-gives o t u w to e (Err r) d = there "VECTOR" s at _ _ o ∙ d
 
   pub num-got : {n : ℕ} → (is_code 12 (word_at s at) ≡ true) × (after (word_at s at) ≡ n) → {t u : List ℕ} {to : ℕ} → u ≡ set t to (pack k 2 v)
       → Got none (sort_w name_w k v) (if_next s "NUM" (give num) (a_type s) at) t to u n (to + 1) 0
@@ -119,6 +119,10 @@ module _ (s : List ℕ) (k i at p q : ℕ) (n : declared s i at ≡ ok (spelling
     wrote = as-words (rw (spelt_is s p q l)) e.wrote;
     counts = refl;
   }
+
+  pub port-gives : (t : List ℕ) (to : ℕ) (u : List ℕ) (r : Result Read Refusal) → Gives none (sort_w name_w k (spelt p q)) (a_type s a) t to u r → Gives none (decl_w name_w k) (port s i 0 at) t to u r
+  port-gives t to u (Ok r) e = rw e.counts (port-got e)
+  port-gives t to u (Err r) e = port-off e
 
   pub sort-off : {j y : ℕ} → if_next s "NUM" (give num) (a_type s) a ≡ refuse j y → local s i 0 at ≡ refuse j y
   unfolding local

@@ -1,5 +1,5 @@
 -- Laws of factors, by the word that each begins with. Assumes nothing.
-use Rattle.std.specs.Prelude.{◌≡◌, ℕ, zero, suc, ◌+◌, ◌-◌, ◌*◌, ◌≤◌, ◌<◌, List, length, set}
+use Rattle.std.specs.Prelude.{◌≡◌, ℕ, zero, suc, ◌+◌, ◌-◌, ◌*◌, ◌≤◌, ◌<◌, Result, Ok, Err, List, length, set}
 use Rattle.std.proofs.Math.Path.{refl}
 use Rattle.std.proofs.Common.{◌∙◌, sub-one, arith}
 use borrow.Author.Tests.{eq-eqb, ne_eqb}
@@ -14,7 +14,7 @@ use Rattle.tape.specs.Layout.{pack, BRACKET, spelt, name_w, flip}
 use Rattle.tape.specs.Encoding.{exp_w}
 use Rattle.tape.specs.Written.{Got, Gives, none, stored, patch}
 use Rattle.tape.specs.declared.Read.{Read}
-use Rattle.tape.specs.declared.Read.TheVariants.{Done, No}
+use Rattle.rules.specs.declared.Refusal.{Refusal}
 use Rattle.marks.specs.Room.{Spends}
 use Rattle.marks.specs.Laws.One.{passed, spelt_is}
 use Rattle.expressions.specs.Words.{Closes}
@@ -86,16 +86,16 @@ module _ (s : List ℕ) (left at : ℕ) {b p q : ℕ} (e : word_at s at ≡ Mark
   open-over f g z = at_open s left at e f g ∙ no-open s left p q z
 
   -- a minus before a factor turns that factor's head
-  pub negated : (h : ℕ) (t : List ℕ) (to : ℕ) (u : List ℕ) (r : Read) → b ≡ 45 → (left ≡ 0 → ⊥) → Gives none (exp_w name_w (flip h)) (factor s (left - 1) q) t to u r
+  pub negated : (h : ℕ) (t : List ℕ) (to : ℕ) (u : List ℕ) (r : Result Read Refusal) → b ≡ 45 → (left ≡ 0 → ⊥) → Gives none (exp_w name_w (flip h)) (factor s (left - 1) q) t to u r
       → Gives none (exp_w name_w h) (factor s left at) t to u r
   unfolding exp_w ◌>>=◌ ◌and-then◌ give
-  negated h t to u (Done n m c) f z g = record {
+  negated h t to u (Ok r) f z g = record {
     value = neg g.value;
     reads = at-minus s left at e f ∙ minus-more s left p q z ∙ rw g.reads;
     wrote = g.wrote;
     counts = g.counts;
   }
-  negated h t to u (No k x) f z g = at-minus s left at e f ∙ minus-more s left p q z ∙ rw g
+  negated h t to u (Err r) f z g = at-minus s left at e f ∙ minus-more s left p q z ∙ rw g
 
   module _ (f : b ≡ 45 → ⊥) (g : b ≡ 40) (z : left ≡ 0 → ⊥) where
     -- what is in a bracket is refused
@@ -104,16 +104,16 @@ module _ (s : List ℕ) (left at : ℕ) {b p q : ℕ} (e : word_at s at ≡ Mark
     inside-off i = at_open s left at e f g ∙ open_more s left p q z ∙ rw i
 
     -- a bracket's word stands before the words of what is in it
-    pub grouped : (h : ℕ) (t : List ℕ) (to : ℕ) (u v : List ℕ) (n m : ℕ) {c : ℕ} (r : Read) → Got none (exp_w name_w 0) (expression_of s (factor s (left - 1)) q) t (to + 1) u n m c → Closes s n u to m h v r
+    pub grouped : (h : ℕ) (t : List ℕ) (to : ℕ) (u v : List ℕ) (n m : ℕ) {c : ℕ} (r : Result Read Refusal) → Got none (exp_w name_w 0) (expression_of s (factor s (left - 1)) q) t (to + 1) u n m c → Closes s n u to m h v r
         → Gives none (exp_w name_w h) (factor s left at) t to v r
     unfolding exp_w ◌>>=◌ ◌and-then◌ give
-    grouped h t to u v n m (Done x y w) i j = record {
+    grouped h t to u v n m (Ok r) i j = record {
       value = group i.value;
       reads = at_open s left at e f g ∙ open_more s left p q z ∙ rw (i.reads, passed ")" s n j.reads);
       wrote = rw j.ended (patch (λ l. pack BRACKET h l) i.wrote j.tape);
       counts = j.size;
     }
-    grouped h t to u v n m (No x y) i j = at_open s left at e f g ∙ open_more s left p q z ∙ rw (i.reads, passed ")" s n j)
+    grouped h t to u v n m (Err r) i j = at_open s left at e f g ∙ open_more s left p q z ∙ rw (i.reads, passed ")" s n j)
 
 module _ (s : List ℕ) (left at h : ℕ) (t : List ℕ) (to : ℕ) (u : List ℕ) where
   pub named : {p q : ℕ} → word_at s at ≡ Named p q → q ≤ length s → u ≡ set t to (pack 1 h (spelt p q)) → Got none (exp_w name_w h) (factor s left at) t to u q (to + 1) 0
@@ -130,11 +130,11 @@ module _ (s : List ℕ) (left at h : ℕ) (t : List ℕ) (to : ℕ) (u : List �
   numbered {v = v} e x = record { value = number v; reads = at-number s left at e; wrote = stored x; counts = refl }
 
 -- what is spent from a later place is spent from an earlier one
-pub sooner : (len a b to : ℕ) (r : Read) → a ≤ b → Spends 1 0 len b to r → Spends 1 0 len a to r
-sooner len a b to (Done n m c) h f = omega arith
-sooner len a b to (No k p) h f = tt
+pub sooner : (len a b to : ℕ) (r : Result Read Refusal) → a ≤ b → Spends 1 0 len b to r → Spends 1 0 len a to r
+sooner len a b to (Ok r) h f = omega arith
+sooner len a b to (Err r) h f = tt
 
 -- a bracket's two bytes pay for its word
-pub paired : (s : List ℕ) (a b at to end head : ℕ) (t u : List ℕ) (r : Read) → a < b → to ≤ end → 2 * end + b ≤ 2 * (to + 1) + at + 1 → b ≤ at → Closes s at t to end head u r → Spends 1 0 (length s) a to r
-paired s a b at to end head t u (Done n m c) h l f i e = omega (arith, e.ended, e.past)
-paired s a b at to end head t u (No k p) h l f i e = tt
+pub paired : (s : List ℕ) (a b at to end head : ℕ) (t u : List ℕ) (r : Result Read Refusal) → a < b → to ≤ end → 2 * end + b ≤ 2 * (to + 1) + at + 1 → b ≤ at → Closes s at t to end head u r → Spends 1 0 (length s) a to r
+paired s a b at to end head t u (Ok r) h l f i e = omega (arith, e.ended, e.past)
+paired s a b at to end head t u (Err r) h l f i e = tt

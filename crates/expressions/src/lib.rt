@@ -10,8 +10,8 @@ ghost use Rattle.tape.specs.Written.{Gives, none};
 ghost use Rattle.marks.specs.Room.{Room, Spends};
 ghost use Rattle.expressions.specs.Words.{Closes, bounds_w};
 
-use marks::Key;
-use rules::Word;
+use marks::{Joint, Key, Spot};
+use rules::{Reason, Refusal, Word};
 use tape::{Kind, Read};
 
 // The head of a factor after one more minus.
@@ -23,114 +23,129 @@ fn flipped(head: u32) -> u32
 }
 
 // The closing bracket of an expression whose words go from `to + 1` to `end`: the bracket's own word is stored last.
-fn close(text: &[u8], tape: &mut [u32], at: usize, to: usize, end: usize, head: u32) -> Read
+fn close(
+    text: &[u8],
+    tape: &mut [u32],
+    at: usize,
+    to: usize,
+    end: usize,
+    head: u32,
+) -> Result<Read, Refusal>
     requires { (at ≤ length text.now) × (to < end) × (end ≤ length tape.old) × (end < to + 33554432) × (head < 8) }
     ensures { Closes text.now at tape.old to end head tape.new result }
 {
-    let r = marks::mark(text, at, Key::CLOSE);
-    let Read::Done(n, _, _) = r else {
-        return r;
-    };
-    tape::store(tape, to, Kind::BRACKET, head, end - to - 1);
-    Read::Done(n, end, 0)
+    let Spot { next, .. } = marks::mark(text, at, Key::Close)?;
+    tape::store(tape, to, Kind::Bracket, head, end - to - 1);
+    Ok(Read {
+        next,
+        end,
+        names: 0,
+    })
 }
 
 // A factor, where `left` more levels may be opened. `head` says what stands before it.
 #[cycle(expression_factor_term)]
-fn factor(text: &[u8], tape: &mut [u32], at: usize, to: usize, left: usize, head: u32) -> Read
+fn factor(
+    text: &[u8],
+    tape: &mut [u32],
+    at: usize,
+    to: usize,
+    left: usize,
+    head: u32,
+) -> Result<Read, Refusal>
     requires { Room left text.now tape.old at to × (head < 8) }
     ensures gives { Gives none (exp_w name_w head) (factor_at text.now left at) tape.old to tape.new result }
     ensures spends { Spends 1 0 (length text.now) at to result }
 {
-    let w = words::word_at(text, at);
-    match w {
-        Word::Bad(p) => Read::No(3, p),
-        Word::Name(p, n) => {
-            tape::store_name(tape, to, Kind::NAME, head, p, n);
-            Read::Done(n, to + 1, 0)
+    let word = words::word_at(text, at);
+    match word {
+        Word::Bad(_) => Err(marks::unwanted(word)),
+        Word::Name(place, next) => {
+            tape::store_name(tape, to, Kind::Name, head, place, next);
+            Ok(Read {
+                next,
+                end: to + 1,
+                names: 0,
+            })
         }
-        Word::Number(_, n, v) => {
-            tape::store(tape, to, Kind::NUMBER, head, v);
-            Read::Done(n, to + 1, 0)
+        Word::Number(_, next, value) => {
+            tape::store(tape, to, Kind::Number, head, value);
+            Ok(Read {
+                next,
+                end: to + 1,
+                names: 0,
+            })
         }
-        Word::Mark(b, p, n) => {
-            if b == Key::MINUS {
+        Word::Mark(b, place, next) => {
+            if b == Key::Minus.code() {
                 if left == 0 {
-                    return Read::No(5, p);
+                    return Err(Refusal {
+                        reason: Reason::TooMany,
+                        place,
+                    });
                 }
-                return factor(text, tape, n, to, left - 1, flipped(head));
+                return factor(text, tape, next, to, left - 1, flipped(head));
             }
-            if b == Key::OPEN {
+            if b == Key::Open.code() {
                 if left == 0 {
-                    return Read::No(5, p);
+                    return Err(Refusal {
+                        reason: Reason::TooMany,
+                        place,
+                    });
                 }
-                let r = expression(text, tape, n, to + 1, left - 1, 0);
-                let Read::Done(x, y, _) = r else {
-                    return r;
-                };
-                return close(text, tape, x, to, y, head);
+                let inner = expression(text, tape, next, to + 1, left - 1, 0)?;
+                return close(text, tape, inner.next, to, inner.end, head);
             }
-            Read::No(4, p)
+            Err(marks::unwanted(word))
         }
     }
 }
 
 // A term: factors joined by *.
 #[cycle(expression_factor_term)]
-fn term(text: &[u8], tape: &mut [u32], at: usize, to: usize, left: usize, head: u32) -> Read
+fn term(
+    text: &[u8],
+    tape: &mut [u32],
+    at: usize,
+    to: usize,
+    left: usize,
+    head: u32,
+) -> Result<Read, Refusal>
     requires { Room left text.now tape.old at to × (head < 8) }
     ensures gives { Gives none (exp_w name_w head) (chain text.now is_product (factor_at text.now left) at) tape.old to tape.new result }
     ensures spends { Spends 1 0 (length text.now) at to result }
 {
-    let first = factor(text, tape, at, to, left, head);
-    let Read::Done(n, m, _) = first else {
-        return first;
-    };
-    let mut next = n;
-    let mut end = m;
-    loop {
-        let j = marks::product(text, next);
-        let Read::Done(after, h, _) = j else {
-            return Read::Done(next, end, 0);
-        };
-        let more = factor(text, tape, after, end, left, h as u32);
-        let Read::Done(x, y, _) = more else {
-            return more;
-        };
-        next = x;
-        end = y;
+    let mut read = factor(text, tape, at, to, left, head)?;
+    while let Some(Joint { next, head }) = marks::product(text, read.next) {
+        read = factor(text, tape, next, read.end, left, head)?;
     }
+    Ok(read)
 }
 
-// An expression: terms joined by + or -.
+// An expression: terms joined by + or -. It and a term are one loop over another item, but a function that takes the item cannot stand in
+// the cycle that an expression and its factors make.
 #[cycle(expression_factor_term)]
-fn expression(text: &[u8], tape: &mut [u32], at: usize, to: usize, left: usize, head: u32) -> Read
+fn expression(
+    text: &[u8],
+    tape: &mut [u32],
+    at: usize,
+    to: usize,
+    left: usize,
+    head: u32,
+) -> Result<Read, Refusal>
     requires { Room left text.now tape.old at to × (head < 8) }
     ensures gives { Gives none (exp_w name_w head) (expression_of text.now (factor_at text.now left) at) tape.old to tape.new result }
     ensures spends { Spends 1 0 (length text.now) at to result }
 {
-    let first = term(text, tape, at, to, left, head);
-    let Read::Done(n, m, _) = first else {
-        return first;
-    };
-    let mut next = n;
-    let mut end = m;
-    loop {
-        let j = marks::sum(text, next);
-        let Read::Done(after, h, _) = j else {
-            return Read::Done(next, end, 0);
-        };
-        let more = term(text, tape, after, end, left, h as u32);
-        let Read::Done(x, y, _) = more else {
-            return more;
-        };
-        next = x;
-        end = y;
+    let mut read = term(text, tape, at, to, left, head)?;
+    while let Some(Joint { next, head }) = marks::sum(text, read.next) {
+        read = term(text, tape, next, read.end, left, head)?;
     }
+    Ok(read)
 }
 
 // A whole expression, at level 1: 15 more may be opened.
-pub fn value(text: &[u8], tape: &mut [u32], at: usize, to: usize) -> Read
+pub fn value(text: &[u8], tape: &mut [u32], at: usize, to: usize) -> Result<Read, Refusal>
     requires { Room 15 text.now tape.old at to }
     ensures gives { Gives none (exp_w name_w 0) (expression_at text.now at) tape.old to tape.new result }
     ensures spends { Spends 1 0 (length text.now) at to result }
@@ -139,22 +154,12 @@ pub fn value(text: &[u8], tape: &mut [u32], at: usize, to: usize) -> Read
 }
 
 // Two bounds: a..b
-pub fn bounds(text: &[u8], tape: &mut [u32], at: usize, to: usize) -> Read
+pub fn bounds(text: &[u8], tape: &mut [u32], at: usize, to: usize) -> Result<Read, Refusal>
     requires { Room 15 text.now tape.old at to }
     ensures gives { Gives none bounds_w (bounds_at text.now at) tape.old to tape.new result }
     ensures spends { Spends 1 0 (length text.now) at to result }
 {
-    let a = value(text, tape, at, to);
-    let Read::Done(n, m, _) = a else {
-        return a;
-    };
-    let d = marks::mark(text, n, Key::DOTS);
-    let Read::Done(x, _, _) = d else {
-        return d;
-    };
-    let b = value(text, tape, x, m);
-    let Read::Done(y, z, _) = b else {
-        return b;
-    };
-    Read::Done(y, z, 0)
+    let first = value(text, tape, at, to)?;
+    let dots = marks::mark(text, first.next, Key::Dots)?;
+    value(text, tape, dots.next, first.end)
 }

@@ -118,7 +118,7 @@ read_right text before after {d = d} e a =
     record {
       program = s.program;
       reads = read-grammar text (length before) s.reads;
-      holds = handed text before after d s;
+      holds = handed text before after d.next d.end d.names s;
       is = λ net h. net-enough text (length before) net h ∙ rw s.reads;
     }
 

@@ -1,5 +1,5 @@
 -- Laws of blocks. Assumes nothing.
-use Rattle.std.specs.Prelude.{◌≡◌, refl, ℕ, ◌+◌, ◌-◌, ◌≤◌, ◌<◌, length, set}
+use Rattle.std.specs.Prelude.{◌≡◌, refl, ℕ, ◌+◌, ◌-◌, ◌≤◌, ◌<◌, Result, length, set}
 use Rattle.std.proofs.Common.{ap, ◌∙◌, arith, lt-ltb, le-ltb}
 use mathlib.Core.List.{List, [], ◌∷◌, append_assoc}
 use Rattle.rules.specs.Text.{pick}
@@ -10,6 +10,7 @@ use Rattle.tape.specs.Layout.{pack, BLOCK, IN, OUT, VAR, BODY, spelt, name_w}
 use Rattle.tape.specs.Encoding.{list_w, decl_w, generic_w, stmts_w, block_w, callee_w}
 use Rattle.tape.specs.Written.{Got, Gives, none, stored, later, patch, as-words}
 use Rattle.tape.specs.declared.Read.{Read}
+use Rattle.rules.specs.declared.Refusal.{Refusal}
 use Rattle.marks.specs.Laws.One.{on, stop, spelt_is}
 use Rattle.marks.specs.Laws.Lists.{and-rest, via}
 use Rattle.declarations.specs.Kept.{from}
@@ -106,6 +107,6 @@ unfolding blocks
 text-is s o = on _ _ _ o
 
 pub text-gives : (s : List ℕ) {p a : ℕ} → mark s "BLOCK" 0 ≡ ok (p, a) → {t : List ℕ} {to : ℕ} {u : List ℕ} {n m c : ℕ} → Got none (block_w name_w callee_w) (a_block s 0 p a) t to u n m c
-    → (v : List ℕ) (r : Read) → Gives (from 1) (list_w (block_w name_w callee_w)) (rest s [] ◌∷◌ (a_block s) "BLOCK" "" 1 n) u m v r → Gives (from 0) (list_w (block_w name_w callee_w)) (blocks s 0) t to v r
+    → (v : List ℕ) (r : Result Read Refusal) → Gives (from 1) (list_w (block_w name_w callee_w)) (rest s [] ◌∷◌ (a_block s) "BLOCK" "" 1 n) u m v r → Gives (from 0) (list_w (block_w name_w callee_w)) (blocks s 0) t to v r
 unfolding ◌>>=◌
 text-gives s {p} {a} o {t} {to} g v r h = via _ _ t to v r (text-is s o) (and-rest (blocks-row s) (a_block s 0 p a) 0 v r g h)

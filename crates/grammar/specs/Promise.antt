@@ -1,5 +1,5 @@
 -- What reading a text onto the work table promises: the answer, and every word of the table. Assumes nothing.
-use Rattle.std.specs.Prelude.{◌≡◌, ℕ, ◌+◌, ◌*◌, ◌≤◌, ◌<◌, List, ◌++◌, replicate, leb}
+use Rattle.std.specs.Prelude.{◌≡◌, ℕ, ◌+◌, ◌*◌, ◌≤◌, ◌<◌, Result, Ok, Err, List, ◌++◌, replicate, leb}
 use Rattle.std.proofs.Common.{sym, ◌∙◌}
 use Rattle.std.proofs.Math.Path.{ap}
 use native.Mathlib.Omega.{arith}
@@ -12,7 +12,9 @@ use Rattle.tape.specs.Layout.{name_w}
 use Rattle.tape.specs.Encoding.{tape_of, list_w, block_w, callee_w}
 use Rattle.tape.specs.Written.{Got, put_is}
 use Rattle.tape.specs.declared.Read.{Read}
-use Rattle.tape.specs.declared.Read.TheVariants.{Done, No}
+use Rattle.rules.specs.Reasons.{number}
+use Rattle.rules.specs.declared.Refusal.{Refusal}
+use Rattle.rules.specs.Numbers.{same-refusal}
 use Rattle.marks.specs.Room.{Room}
 use Rattle.declarations.specs.Kept.{from}
 
@@ -35,25 +37,31 @@ pub record Stands (text before : List ℕ) (n m c : ℕ) (after : List ℕ) : Ty
   pub half : 2 * m + 15 ≤ length text
 
 -- the answer r and the table after it, for a text and the table before: the program, or the refusal with the table all zeros
-abbrev pub Reads : List ℕ → List ℕ → Read → List ℕ → Type 0
-Reads text before (Done n m c) after = Stands text before n m c after
-Reads text before (No k p) after = (read_text text (length before) ≡ refuse k p) × (after ≡ replicate (length before) 0)
+abbrev pub Reads : List ℕ → List ℕ → Result Read Refusal → List ℕ → Type 0
+Reads text before (Ok r) after = Stands text before r.next r.end r.names after
+Reads text before (Err e) after = (read_text text (length before) ≡ refuse (number e.reason) e.place) × (after ≡ replicate (length before) 0)
 
 -- ---- one input, one outcome
 
-same-done : (text before : List ℕ) (n m c x y z : ℕ) (u v : List ℕ) → Stands text before n m c u → Stands text before x y z v → (Done n m c ≡ Done x y z) × (u ≡ v)
-same-done text before n m c x y z u v a b =
+same-done : (text before : List ℕ) (r s : Read) (u v : List ℕ) → Stands text before r.next r.end r.names u → Stands text before s.next s.end s.names v → (r ≡ s) × (u ≡ v)
+same-done text before r s u v a b =
     let p : a.program ≡ b.program = cc (a.reads, b.reads) in
-    let i : n ≡ x = a.to_the_end ∙ sym b.to_the_end in
-    let j : m ≡ y = a.words ∙ ap (λ P. length (tape_of P)) p ∙ sym b.words in
-    let k : c ≡ z = a.blocks ∙ ap length p ∙ sym b.blocks in
-    (rw (i, j, k), a.table ∙ ap (λ P. tape_of P ++ drop m before) p ∙ ap (λ l. tape_of b.program ++ drop l before) j ∙ sym b.table)
+    let i : r.next ≡ s.next = a.to_the_end ∙ sym b.to_the_end in
+    let j : r.end ≡ s.end = a.words ∙ ap (λ P. length (tape_of P)) p ∙ sym b.words in
+    let k : r.names ≡ s.names = a.blocks ∙ ap length p ∙ sym b.blocks in
+    (same-read r s i j k, a.table ∙ ap (λ P. tape_of P ++ drop r.end before) p ∙ ap (λ l. tape_of b.program ++ drop l before) j ∙ sym b.table)
+  where
+    same-read : (r s : Read) → r.next ≡ s.next → r.end ≡ s.end → r.names ≡ s.names → r ≡ s
+    same-read r s i j k = let e : record { next = r.next; end = r.end; names = r.names } ≡ s = rw (i, j, k) in e
 
-pub one-outcome : (text before : List ℕ) (r s : Read) (u v : List ℕ) → Reads text before r u → Reads text before s v → (r ≡ s) × (u ≡ v)
-one-outcome text before (Done n m c) (Done x y z) u v a b = same-done text before n m c x y z u v a b
-one-outcome text before (Done n m c) (No k p) u v a b = let z : ◌≡◌ {A = ℕ} 0 1 = cc (a.reads, b.0) in absurd (omega arith)
-one-outcome text before (No k p) (Done x y z) u v a b = let z : ◌≡◌ {A = ℕ} 0 1 = cc (a.0, b.reads) in absurd (omega arith)
-one-outcome text before (No k p) (No i j) u v a b = (cc (a.0, b.0), a.1 ∙ sym b.1)
+pub one-outcome : (text before : List ℕ) (r s : Result Read Refusal) (u v : List ℕ) → Reads text before r u → Reads text before s v → (r ≡ s) × (u ≡ v)
+one-outcome text before (Ok r) (Ok s) u v a b = let (e, f) = same-done text before r s u v a b in (ap Ok e, f)
+one-outcome text before (Ok r) (Err e) u v a b = let z : ◌≡◌ {A = ℕ} 0 1 = cc (a.reads, b.0) in absurd (omega arith)
+one-outcome text before (Err e) (Ok r) u v a b = let z : ◌≡◌ {A = ℕ} 0 1 = cc (a.0, b.reads) in absurd (omega arith)
+one-outcome text before (Err e) (Err f) u v a b =
+    let n : number e.reason ≡ number f.reason = cc (a.0, b.0) in
+    let p : e.place ≡ f.place = cc (a.0, b.0) in
+    (ap Err (same-refusal e f n p), a.1 ∙ sym b.1)
 
 -- ---- a second text of the same size fits beside the first: after its words there is room to read one more
 

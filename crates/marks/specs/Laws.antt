@@ -1,3 +1,4 @@
+pub mod Exits
 pub mod One
 pub mod Chains
 pub mod Lists

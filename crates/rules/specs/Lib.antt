@@ -1,6 +1,7 @@
 pub mod Text
 pub mod Outcome
 pub mod Reasons
+pub mod Numbers
 pub mod Primitives
 pub mod Words
 pub mod Syntax

@@ -1,7 +1,8 @@
 -- A loop up to its BEGIN. Assumes nothing.
-use Rattle.std.specs.Prelude.{◌≡◌, ℕ, ◌+◌, ◌≤◌, List, ◌∷◌, ◌++◌, length, set}
+use Rattle.std.specs.Prelude.{◌≡◌, ℕ, ◌+◌, ◌≤◌, Result, Ok, Err, IsErrAnd, List, ◌∷◌, ◌++◌, length, set}
 use Rattle.std.proofs.Common.{◌∙◌}
 use native.Mathlib.Omega.{arith}
+use Rattle.std.proofs.lemmas.Result.{err_from_is_err_and}
 use Rattle.rules.specs.Outcome.{ok, refuse}
 use Rattle.rules.specs.Syntax.{Name, end, loop}
 use Rattle.rules.specs.Readers.{Reader, ◌>>=◌, give, spelling, mark, a_name}
@@ -10,7 +11,8 @@ use Rattle.tape.specs.Layout.{pack, LOOP, INDEX, spelt, name_w}
 use Rattle.tape.specs.Encoding.{exp_w}
 use Rattle.tape.specs.Written.{Wrote, Got, none, stored, later, as-words}
 use Rattle.tape.specs.declared.Read.{Read}
-use Rattle.tape.specs.declared.Read.TheVariants.{Done, No}
+use Rattle.rules.specs.Reasons.{number}
+use Rattle.rules.specs.declared.Refusal.{Refusal}
 use Rattle.marks.specs.Laws.One.{on, spelt_is}
 use Rattle.expressions.specs.Words.{bounds_w}
 
@@ -22,9 +24,13 @@ pub record Headed (s : List ℕ) (p at : ℕ) (t : List ℕ) (to : ℕ) (u : Lis
   pub goes : (inside : Reader Body) → looping s inside p at ≡ (inside >>= λ b. give (loop p index low high b end)) n
   pub wrote : Wrote t to (pack LOOP 0 p ∷ pack INDEX 0 (name_w index) ∷ (exp_w name_w 0 low ++ exp_w name_w 0 high)) u m
 
-abbrev pub Heads : List ℕ → ℕ → ℕ → List ℕ → ℕ → List ℕ → Read → Type 0
-Heads s p at t to u (Done n m c) = Headed s p at t to u n m
-Heads s p at t to u (No k q) = (inside : Reader Body) → looping s inside p at ≡ refuse k q
+abbrev pub Heads : List ℕ → ℕ → ℕ → List ℕ → ℕ → List ℕ → Result Read Refusal → Type 0
+Heads s p at t to u (Ok r) = Headed s p at t to u r.next r.end
+Heads s p at t to u (Err e) = (inside : Reader Body) → looping s inside p at ≡ refuse (number e.reason) e.place
+
+-- the exit of a `?`
+pub heads_on : (s : List ℕ) (p at : ℕ) (t : List ℕ) (to : ℕ) (u : List ℕ) (r : Result Read Refusal) (e : Refusal) → IsErrAnd r (λ y. y ≡ e) → ((inside : Reader Body) → looping s inside p at ≡ refuse (number e.reason) e.place) → Heads s p at t to u r
+heads_on s p at t to u r e h g = let q = err_from_is_err_and r h in rw (q.1, q.2) g
 
 module _ {s : List ℕ} {p at a b c i x y n : ℕ} {t v u w : List ℕ} {to m k : ℕ} where
   -- all its parts

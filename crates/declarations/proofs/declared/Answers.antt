@@ -1,7 +1,9 @@
+use Rattle.marks.specs.Laws.Exits.{tells_on}
 use Rattle.marks.specs.Laws.One.{stop}
 use Rattle.rules.specs.Grammar.{declared as declared_at}
+use Rattle.rules.specs.Readers.{spelling}
 use Rattle.declarations.proofs.declared.Goals as goal
 
-pub returns-in_default : goal.returns-in_default
+pub returns-in_err-name-clause-tells : goal.returns-in_err-name-clause-tells
 unfolding declared_at
-returns-in_default c = let p = c.in_default.is in record { tells = rw p (stop _ _ _ (rw p at c.name-r.ensures.tells)); named = rw p tt; below = rw p tt }
+returns-in_err-name-clause-tells c = tells_on (spelling c.args.text.now) _ _ c.from_residual.ensures.1 (stop _ _ _ c.in_err-name.ensures.tells)

@@ -1,45 +1,32 @@
+use Rattle.std.proofs.Common.{◌∙◌, arith}
 use Rattle.declarations.specs.Parts.{sort-off, local-off, local-got}
+use Rattle.marks.specs.Laws.Exits.{gives_on}
 use Rattle.marks.specs.Laws.One.{on, stop, passed}
 use Rattle.rules.specs.Grammar.{local as local_at}
-use mathlib.Core.Path.{◌∙◌}
-use native.Mathlib.Omega.{arith}
+use Rattle.tape.specs.Encoding.{decl_w}
+use Rattle.tape.specs.Layout.{name_w}
+use Rattle.tape.specs.Written.{none}
 use Rattle.declarations.proofs.local.Goals as goal
 
-pub returns-in_default : goal.returns-in_default
+pub returns-in_err-name-clause-gives : goal.returns-in_err-name-clause-gives
 unfolding local_at
-returns-in_default c = let p = c.in_default.is in record { gives = rw p (stop _ _ _ (rw p at c.declared-f.ensures.tells)); spends = rw p tt; below = rw p tt }
+returns-in_err-name-clause-gives c = gives_on none (decl_w name_w 13) _ _ _ _ _ c.from_residual.ensures.1 (stop _ _ _ c.in_err-name.ensures.tells)
 
-pub mark-c-requires : goal.mark-c-requires
-mark-c-requires c = let o = rw c.in-Done.is at c.declared-f.ensures.named in omega arith
-
-pub returns-in_default-c : goal.returns-in_default-c
+pub returns-in_err-colon-clause-gives : goal.returns-in_err-colon-clause-gives
 unfolding local_at
-returns-in_default-c c = let p = c.in_default-c.is in record { gives = rw p (on _ _ _ (rw c.in-Done.is at c.declared-f.ensures.tells) ∙ stop _ _ _ (passed ":" _ _ (rw p at c.mark-c.ensures.tells))); spends = rw p tt; below = rw p tt }
+returns-in_err-colon-clause-gives c = gives_on none (decl_w name_w 13) _ _ _ _ _ c.from_residual-in_err-colon.ensures.1 (on _ _ _ c.in_ok-name.ensures.tells ∙ stop _ _ _ (passed ":" _ _ c.in_err-colon.ensures.tells))
 
-pub sort-s-requires : goal.sort-s-requires
-sort-s-requires c =
-    let o = rw c.in-Done.is at c.declared-f.ensures.named in
-    let x = rw c.in-Done-c.is at c.mark-c.ensures.past in
-    omega (arith, c.requires)
+pub returns-in_err-sort-clause-gives : goal.returns-in_err-sort-clause-gives
+returns-in_err-sort-clause-gives c =
+    let o = c.in_ok-name.ensures in
+    gives_on none (decl_w name_w 13) _ _ _ _ _ c.from_residual-in_err-sort.ensures.1 (sort-off _ 0 _ _ _ _ o.tells (omega arith) (passed ":" _ _ c.in_ok-colon.ensures.tells) c.in_err-sort.ensures.gives)
 
-pub returns-in_default-s : goal.returns-in_default-s
-returns-in_default-s c =
-    let o = rw c.in-Done.is at c.declared-f.ensures.named in
-    let p = c.in_default-s.is in
-    record { gives = rw p (sort-off _ 0 _ _ _ _ (rw c.in-Done.is at c.declared-f.ensures.tells) (omega arith) (passed ":" _ _ (rw c.in-Done-c.is at c.mark-c.ensures.tells)) (rw p at c.sort-s.ensures.gives)); spends = rw p tt; below = rw p tt }
+pub returns-in_err-end-clause-gives : goal.returns-in_err-end-clause-gives
+returns-in_err-end-clause-gives c =
+    let o = c.in_ok-name.ensures in
+    gives_on none (decl_w name_w 13) _ _ _ _ _ c.from_residual-in_err-end.ensures.1 (local-off _ _ _ _ _ _ o.tells (omega arith) (passed ":" _ _ c.in_ok-colon.ensures.tells) c.in_ok-sort.ensures.gives (passed ";" _ _ c.in_err-end.ensures.tells))
 
-pub mark-e-requires : goal.mark-e-requires
-mark-e-requires c = let y = rw c.in-Done-s.is at c.sort-s.ensures.spends in omega arith
-
-pub returns-in_default-e : goal.returns-in_default-e
-returns-in_default-e c =
-    let o = rw c.in-Done.is at c.declared-f.ensures.named in
-    let p = c.in_default-e.is in
-    record { gives = rw p (local-off _ _ _ _ _ _ (rw c.in-Done.is at c.declared-f.ensures.tells) (omega arith) (passed ":" _ _ (rw c.in-Done-c.is at c.mark-c.ensures.tells)) (rw c.in-Done-s.is at c.sort-s.ensures.gives) (passed ";" _ _ (rw p at c.mark-e.ensures.tells))); spends = rw p tt; below = rw p tt }
-
-pub returns : goal.returns
-returns c =
-    let o = rw c.in-Done.is at c.declared-f.ensures.named in
-    let x = rw c.in-Done-c.is at c.mark-c.ensures.past in
-    let y = rw c.in-Done-s.is at c.sort-s.ensures.spends in
-    let z = rw c.in-Done-e.is at c.mark-e.ensures.past in record { gives = local-got _ _ _ _ _ _ (rw c.in-Done.is at c.declared-f.ensures.tells) (omega arith) (passed ":" _ _ (rw c.in-Done-c.is at c.mark-c.ensures.tells)) (rw c.in-Done-s.is at c.sort-s.ensures.gives) (passed ";" _ _ (rw c.in-Done-e.is at c.mark-e.ensures.tells)); spends = omega arith; below = rw c.in-Done.is at c.declared-f.ensures.below }
+pub returns-clause-gives : goal.returns-clause-gives
+returns-clause-gives c =
+    let o = c.in_ok-name.ensures in
+    local-got _ _ _ _ _ _ o.tells (omega arith) (passed ":" _ _ c.in_ok-colon.ensures.tells) c.in_ok-sort.ensures.gives (passed ";" _ _ c.in_ok-end.ensures.tells)

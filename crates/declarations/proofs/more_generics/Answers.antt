@@ -1,59 +1,25 @@
+use Rattle.std.proofs.Common.{◌∙◌, arith}
+use Rattle.declarations.specs.Kept.{from}
 use Rattle.declarations.specs.Rows.{generics-row}
-use Rattle.marks.specs.Laws.Lists.{begun, wrong, last, item-off, onto}
-use mathlib.Core.Path.{refl, sym, ◌∙◌}
-use native.Mathlib.Omega.{arith}
+use Rattle.marks.specs.Laws.Exits.{gives_on}
+use Rattle.marks.specs.Laws.Lists.{wrong, last, item-off, onto}
+use Rattle.tape.specs.Encoding.{list_w, generic_w}
 use Rattle.declarations.proofs.more_generics.Goals as goal
 
-pub loop-j-init : goal.loop-j-init
-loop-j-init c = (begun (generics-row _) _ _ _ _, refl, omega arith, omega (arith, c.requires), omega arith, omega arith)
+pub returns-in_err-next-clause-gives : goal.returns-in_err-next-clause-gives
+returns-in_err-next-clause-gives c = gives_on (from c.args.count) (list_w generic_w) _ _ _ _ _ c.from_residual.ensures.1 (wrong (generics-row _) c.loop-next.invariant.0 c.loop-next.invariant.3 _ c.in_err-next.ensures.value)
 
-pub separator-d-requires : goal.separator-d-requires
-separator-d-requires c = c.loop-j.invariant.3
+pub returns-in-Last-clause-gives : goal.returns-in-Last-clause-gives
+returns-in-Last-clause-gives c = last (generics-row _) c.loop-next.invariant.0 c.loop-next.invariant.3 _ _ (rw c.in-Last.is at c.in_ok-next.ensures.value) (omega arith)
 
-pub shape_of-tape-in-Wrong : goal.shape_of-tape-in-Wrong
-shape_of-tape-in-Wrong c = c.loop-j.invariant.1
+pub returns-in_err-item-in-Another-clause-gives : goal.returns-in_err-item-in-Another-clause-gives
+returns-in_err-item-in-Another-clause-gives c =
+    gives_on (from c.args.count) (list_w generic_w) _ _ _ _ _ c.from_residual-in_err-item-in-Another.ensures.1
+    (item-off (generics-row _) c.loop-next.invariant.0 c.loop-next.invariant.3 (rw c.in-Another.is at c.in_ok-next.ensures.value) _ c.in_err-item-in-Another.ensures.gives)
 
-pub returns-in-Wrong : goal.returns-in-Wrong
-returns-in-Wrong c = record { gives = wrong (generics-row _) c.loop-j.invariant.0 c.loop-j.invariant.3 _ _ (sym c.in-Wrong.is ∙ c.separator-d.ensures.value); spends = tt }
-
-pub shape_of-tape-in-Last : goal.shape_of-tape-in-Last
-shape_of-tape-in-Last c = c.loop-j.invariant.1
-
-pub returns-in-Last : goal.returns-in-Last
-returns-in-Last c =
-    let x = rw c.in-Last.is at c.separator-d.ensures.parted in
-    record { gives = last (generics-row _) c.loop-j.invariant.0 c.loop-j.invariant.3 _ _ (sym c.in-Last.is ∙ c.separator-d.ensures.value) (omega arith); spends = omega (arith, c.loop-j.invariant) }
-
-pub generic-item-requires : goal.generic-item-requires
-generic-item-requires c =
-    let x = rw c.in-Another.is at c.separator-d.ensures.parted in
-    omega (arith, c.requires, c.loop-j.invariant)
-
-pub shape_of-tape-in_default : goal.shape_of-tape-in_default
-shape_of-tape-in_default c = c.generic-item.auto.tape ∙ c.loop-j.invariant.1
-
-pub returns-in_default : goal.returns-in_default
-returns-in_default c =
-    let p = c.in_default.is in
-    record { gives = rw p (item-off (generics-row _) c.loop-j.invariant.0 c.loop-j.invariant.3 (sym c.in-Another.is ∙ c.separator-d.ensures.value) (rw p at c.generic-item.ensures.gives)); spends = rw p tt }
-
-pub overflow_add-k : goal.overflow_add-k
-overflow_add-k c = let f = rw c.in-Done.is at c.generic-item.ensures.below in omega arith
-
-pub loop-j-smaller : goal.loop-j-smaller
-loop-j-smaller c =
-    let x = rw c.in-Another.is at c.separator-d.ensures.parted in
-    let u = rw c.in-Done.is at c.generic-item.ensures.spends in
-    omega arith
-
-pub loop-j-preserved : goal.loop-j-preserved
-loop-j-preserved c =
-    let x = rw c.in-Another.is at c.separator-d.ensures.parted in
-    let u = rw c.in-Done.is at c.generic-item.ensures.spends in (
-      onto (generics-row _) c.loop-j.invariant.0 c.loop-j.invariant.3 (sym c.in-Another.is ∙ c.separator-d.ensures.value) (rw c.in-Done.is at c.generic-item.ensures.gives) _ (omega arith),
-      c.generic-item.auto.tape ∙ c.loop-j.invariant.1,
-      omega (arith, c.loop-j.invariant),
-      omega arith,
-      omega (arith, c.loop-j.invariant),
-      omega (arith, c.loop-j.invariant),
-    )
+pub loop-next-preserved : goal.loop-next-preserved
+loop-next-preserved c =
+    let i = c.loop-next.invariant in
+    let u = c.in_ok-item-in-Another.ensures in
+    let p = rw c.in-Another.is at c.in_ok-next.ensures.parted in
+    (onto (generics-row _) i.0 i.3 (rw c.in-Another.is at c.in_ok-next.ensures.value) u.gives _ (omega arith), c.generic.auto.tape ∙ i.1, omega arith, omega arith, omega arith, omega arith)

@@ -5,9 +5,9 @@ use lib.ListN.{length}
 use mathlib.Core.Path.{◌≡◌}
 use Rattle.declarations.proofs.more_generics.Given as goal
 
-abbrev pub invariant-loop-j : goal.invariant-loop-j
-invariant-loop-j l =
-    Listing (generics-row l.text) l.initial.tape l.count l.at l.to l.tape l.k l.next l.end × (length l.tape ≡ length l.initial.tape) × (l.at ≤ l.next) × (l.next ≤ length l.text) × (l.to ≤ l.end) × (2 * l.end + l.at ≤ 2 * l.to + l.next)
+abbrev pub invariant-loop-next : goal.invariant-loop-next
+invariant-loop-next l =
+    Listing (generics-row l.text) l.initial.tape l.count l.at l.to l.tape l.read.names l.read.next l.read.end × (length l.tape ≡ length l.initial.tape) × (l.at ≤ l.read.next) × (l.read.next ≤ length l.text) × (l.to ≤ l.read.end) × (2 * l.read.end + l.at ≤ 2 * l.to + l.read.next)
 
-abbrev pub decreases-loop-j : goal.decreases-loop-j
-decreases-loop-j l = length l.text - l.next
+abbrev pub decreases-loop-next : goal.decreases-loop-next
+decreases-loop-next l = length l.text - l.read.next

@@ -1,35 +1,24 @@
-use Rattle.declarations.specs.Parts.{port-off, port-got}
+use Rattle.std.proofs.Common.{◌∙◌, arith}
+use Rattle.declarations.specs.Parts.{port-gives}
+use Rattle.marks.specs.Laws.Exits.{gives_on}
 use Rattle.marks.specs.Laws.One.{on, stop, passed}
 use Rattle.rules.specs.Grammar.{port as port_at}
-use mathlib.Core.Path.{◌∙◌}
-use native.Mathlib.Omega.{arith}
+use Rattle.tape.specs.Encoding.{decl_w}
+use Rattle.tape.specs.Kinds.{code}
+use Rattle.tape.specs.Layout.{name_w}
+use Rattle.tape.specs.Written.{none}
 use Rattle.declarations.proofs.port.Goals as goal
 
-pub returns-in_default : goal.returns-in_default
+pub returns-in_err-name-clause-gives : goal.returns-in_err-name-clause-gives
 unfolding port_at
-returns-in_default c = let p = c.in_default.is in record { gives = rw p (stop _ _ _ (rw p at c.declared-f.ensures.tells)); spends = rw p tt; below = rw p tt }
+returns-in_err-name-clause-gives c = gives_on none (decl_w name_w (code c.args.kind)) _ _ _ _ _ c.from_residual.ensures.1 (stop _ _ _ c.in_err-name.ensures.tells)
 
-pub mark-c-requires : goal.mark-c-requires
-mark-c-requires c = let o = rw c.in-Done.is at c.declared-f.ensures.named in omega arith
-
-pub returns-in_default-c : goal.returns-in_default-c
+pub returns-in_err-colon-clause-gives : goal.returns-in_err-colon-clause-gives
 unfolding port_at
-returns-in_default-c c = let p = c.in_default-c.is in record { gives = rw p (on _ _ _ (rw c.in-Done.is at c.declared-f.ensures.tells) ∙ stop _ _ _ (passed ":" _ _ (rw p at c.mark-c.ensures.tells))); spends = rw p tt; below = rw p tt }
+returns-in_err-colon-clause-gives c =
+    gives_on none (decl_w name_w (code c.args.kind)) _ _ _ _ _ c.from_residual-in_err-colon.ensures.1 (on _ _ _ c.in_ok-name.ensures.tells ∙ stop _ _ _ (passed ":" _ _ c.in_err-colon.ensures.tells))
 
-pub typed-s-requires : goal.typed-s-requires
-typed-s-requires c =
-    let o = rw c.in-Done.is at c.declared-f.ensures.named in
-    let x = rw c.in-Done-c.is at c.mark-c.ensures.past in
-    omega (arith, c.requires)
-
-pub returns-in_default-s : goal.returns-in_default-s
-returns-in_default-s c =
-    let o = rw c.in-Done.is at c.declared-f.ensures.named in
-    let p = c.in_default-s.is in
-    record { gives = rw p (port-off _ 0 _ _ _ _ (rw c.in-Done.is at c.declared-f.ensures.tells) (omega arith) (passed ":" _ _ (rw c.in-Done-c.is at c.mark-c.ensures.tells)) (rw p at c.typed-s.ensures.gives)); spends = rw p tt; below = rw p tt }
-
-pub returns : goal.returns
-returns c =
-    let o = rw c.in-Done.is at c.declared-f.ensures.named in
-    let x = rw c.in-Done-c.is at c.mark-c.ensures.past in
-    let y = rw c.in-Done-s.is at c.typed-s.ensures.spends in record { gives = port-got _ _ _ _ _ _ (rw c.in-Done.is at c.declared-f.ensures.tells) (omega arith) (passed ":" _ _ (rw c.in-Done-c.is at c.mark-c.ensures.tells)) (rw c.in-Done-s.is at c.typed-s.ensures.gives); spends = omega arith; below = rw c.in-Done.is at c.declared-f.ensures.below }
+pub returns-clause-gives : goal.returns-clause-gives
+returns-clause-gives c =
+    let o = c.in_ok-name.ensures in
+    port-gives _ _ _ _ _ _ o.tells (omega arith) (passed ":" _ _ c.in_ok-colon.ensures.tells) _ _ _ c.typed.result c.typed.ensures.gives

@@ -1,180 +1,111 @@
-use Rattle.expressions.specs.Factors.{at-bad, at_other, minus-over, open-over, negated, inside-off, grouped, named, numbered, sooner, paired}
+use Rattle.std.proofs.Common.{sym, ◌∙◌, arith}
+use Rattle.expressions.specs.Factors.{at-bad, at_other, minus-over, open-over, negated, inside-off, grouped, named, numbered, paired}
 use Rattle.marks.specs.Laws.Chains.{start, ends, off, go_on}
+use Rattle.marks.specs.Laws.Exits.{gives_on}
 use Rattle.marks.specs.Laws.One.{past}
 use Rattle.rules.specs.Grammar.{chain}
 use Rattle.rules.proofs.Laws.Enough.{enough}
 use Rattle.rules.specs.Outcome.{◌>>=◌ as ◌and-then◌}
 use Rattle.rules.specs.Readers.{◌>>=◌}
-use lib.ListN.{length}
-use mathlib.Core.Path.{◌≡◌, refl, sym, ◌∙◌}
-use native.Mathlib.Omega.{arith}
+use Rattle.tape.specs.Encoding.{exp_w}
+use Rattle.tape.specs.Layout.{name_w}
+use Rattle.tape.specs.Written.{none}
 use Rattle.expressions.proofs.+expression_factor_term.Goals as goal
 
-pub expression-term-first-requires : goal.expression-term-first-requires
-expression-term-first-requires t c = (omega (arith, c.decreases), c.requires)
-
-pub expression-returns-in_default : goal.expression-returns-in_default
+pub expression-returns-in_err-read-clause-gives : goal.expression-returns-in_err-read-clause-gives
 unfolding chain ◌>>=◌ ◌and-then◌
-expression-returns-in_default t c = let p = c.in_default.is in record { gives = rw p (rw (rw p at c.term-first.ensures.gives)); spends = rw p tt }
+expression-returns-in_err-read-clause-gives t c = gives_on none (exp_w name_w c.args.head) _ _ _ _ _ c.from_residual.ensures.1 (rw c.in_err-read.ensures.gives)
 
-pub expression-loop-after-init : goal.expression-loop-after-init
-expression-loop-after-init t c = let u = rw c.in-Done.is at c.term-first.ensures.spends in (λ t g. g, refl, omega arith)
+pub expression-returns-in_err-read-2-clause-gives : goal.expression-returns-in_err-read-2-clause-gives
+expression-returns-in_err-read-2-clause-gives t c =
+    let G = c.loop-next.invariant.0 _ (start _ c.in_ok-read.ensures.gives) in
+    gives_on none (exp_w name_w c.args.head) _ _ _ _ _ c.from_residual-in_err-read-2.ensures.1 (off ((enough _).sums _) G (omega (arith, c.loop-next.invariant)) c.in-Some.ensures.joins c.in_err-read-2.ensures.gives)
 
-pub expression-sum-j-requires : goal.expression-sum-j-requires
-expression-sum-j-requires t c = omega (arith, c.loop-after.invariant.2)
-
-pub expression-returns-in_default-j : goal.expression-returns-in_default-j
-expression-returns-in_default-j t c =
-    let G = c.loop-after.invariant.0 _ (start _ (rw c.in-Done.is at c.term-first.ensures.gives)) in
-    let d = rw c.in_default-j.is at c.sum-j.ensures.joins in
-    record { gives = ends ((enough _).sums _) G (omega (arith, c.loop-after.invariant.2)) d; spends = omega (arith, c.loop-after.invariant.2) }
-
-pub expression-overflow_cast-h : goal.expression-overflow_cast-h
-expression-overflow_cast-h t c = let o = rw c.in-Done-j.is at c.sum-j.ensures.joined in omega arith
-
-pub expression-term-more-requires : goal.expression-term-more-requires
-expression-term-more-requires t c =
-    let u = rw c.in-Done.is at c.term-first.ensures.spends in
-    let o = rw c.in-Done-j.is at c.sum-j.ensures.joined in
-    let k : length c.loop-after.tape ≡ length c.args.tape.now = c.loop-after.invariant.1 ∙ c.term-first.auto.tape in
-    (omega (arith, c.decreases), ((c.requires.0.0, omega arith, omega (arith, c.requires.0, k, c.loop-after.invariant.2)), omega arith))
-
-pub expression-returns-in_default-more : goal.expression-returns-in_default-more
-expression-returns-in_default-more t c =
-    let G = c.loop-after.invariant.0 _ (start _ (rw c.in-Done.is at c.term-first.ensures.gives)) in
-    let q = c.in_default-more.is in
-    record { gives = rw q (off ((enough _).sums _) G (omega (arith, c.loop-after.invariant.2)) (rw c.in-Done-j.is at c.sum-j.ensures.joins) (rw q at c.term-more.ensures.gives)); spends = rw q tt }
-
-pub expression-loop-after-smaller : goal.expression-loop-after-smaller
-expression-loop-after-smaller t c =
-    let o = rw c.in-Done-j.is at c.sum-j.ensures.joined in
-    let u = rw c.in-Done-more.is at c.term-more.ensures.spends in
-    omega arith
-
-pub expression-loop-after-preserved : goal.expression-loop-after-preserved
-expression-loop-after-preserved t c =
-    let o = rw c.in-Done-j.is at c.sum-j.ensures.joined in
-    let u = rw c.in-Done-more.is at c.term-more.ensures.spends in (
-      λ t g. go_on ((enough _).sums _) (c.loop-after.invariant.0 t g) (omega (arith, c.loop-after.invariant.2)) (rw c.in-Done-j.is at c.sum-j.ensures.joins) (rw c.in-Done-more.is at c.term-more.ensures.gives),
-      c.term-more.auto.tape ∙ c.loop-after.invariant.1,
-      omega (arith, c.loop-after.invariant.2),
+pub expression-loop-next-preserved : goal.expression-loop-next-preserved
+expression-loop-next-preserved t c =
+    let j = c.in-Some.ensures in
+    let u = c.in_ok-read-2.ensures in (
+      λ t g. go_on ((enough _).sums _) (c.loop-next.invariant.0 t g) (omega (arith, c.loop-next.invariant)) j.joins u.gives,
+      c.term-in-Some.auto.tape ∙ c.loop-next.invariant.1,
+      omega (arith, c.loop-next.invariant, j.joined, u.spends),
+      u.gives.counts,
     )
 
-pub factor-store_name-requires : goal.factor-store_name-requires
-factor-store_name-requires t c = let o = rw c.in-Name.is at c.word_at-w.ensures.onward in omega (arith, c.requires)
+pub expression-returns-clause-gives : goal.expression-returns-clause-gives
+expression-returns-clause-gives t c =
+    let G = c.loop-next.invariant.0 _ (start _ c.in_ok-read.ensures.gives) in
+    rw c.loop-next.invariant.3 (ends ((enough _).sums _) G (omega (arith, c.loop-next.invariant)) c.in_default.ensures.joins)
 
-pub factor-store-requires : goal.factor-store-requires
-factor-store-requires t c = let o = rw c.in-Number.is at c.word_at-w.ensures.onward in omega (arith, c.requires)
+pub factor-returns-then-left-eq0-clause-gives : goal.factor-returns-then-left-eq0-clause-gives
+factor-returns-then-left-eq0-clause-gives t c = minus-over _ _ _ (sym c.in-Mark.ensures.value) (c.if-b-code.true ∙ c.code.ensures) c.if-left-eq0.true
 
-pub factor-returns-then-left-eq0 : goal.factor-returns-then-left-eq0
-factor-returns-then-left-eq0 t c = record { gives = minus-over _ _ _ (sym c.word_at-w.ensures.value ∙ c.in-Mark.is) c.if-b-eq-MINUS.true c.if-left-eq0.true; spends = tt }
+pub factor-returns-then-b-code-clause-gives : goal.factor-returns-then-b-code-clause-gives
+factor-returns-then-b-code-clause-gives t c =
+    negated _ _ _ (sym c.in-Mark.ensures.value) _ _ _ _ c.factor.result (c.if-b-code.true ∙ c.code.ensures) c.if-left-eq0.false (rw (← c.flipped.ensures.0) c.factor.ensures.gives)
 
-pub factor-overflow_sub-left : goal.factor-overflow_sub-left
-factor-overflow_sub-left t c = omega (arith, c.if-left-eq0.false)
+pub factor-returns-then-left-eq0-2-clause-gives : goal.factor-returns-then-left-eq0-2-clause-gives
+factor-returns-then-left-eq0-2-clause-gives t c =
+    open-over _ _ _ (sym c.in-Mark.ensures.value) (rw c.code.ensures at c.if-b-code.false) (c.if-b-code-2.true ∙ c.code-in-Mark.ensures) c.if-left-eq0-2.true
 
-pub factor-flipped-requires : goal.factor-flipped-requires
-factor-flipped-requires t c = c.requires.1
-
-pub factor-factor-requires : goal.factor-factor-requires
-factor-factor-requires t c =
-    let o = rw c.in-Mark.is at c.word_at-w.ensures.onward in
-    let w = past _ _ _ _ _ _ c.if-b-eq-MINUS.true c.requires.0.1 o in
-    (omega (arith, c.decreases, c.if-left-eq0.false), ((c.requires.0.0, omega arith, omega (arith, c.requires.0)), c.flipped.ensures.1))
-
-pub factor-returns-then-b-eq-MINUS : goal.factor-returns-then-b-eq-MINUS
-factor-returns-then-b-eq-MINUS t c =
-    let w = past _ _ _ _ _ _ c.if-b-eq-MINUS.true c.requires.0.1 (rw c.in-Mark.is at c.word_at-w.ensures.onward) in record { gives = negated _ _ _ (sym c.word_at-w.ensures.value ∙ c.in-Mark.is) _ _ _ _ c.factor.result c.if-b-eq-MINUS.true c.if-left-eq0.false (rw (← c.flipped.ensures.0) c.factor.ensures.gives); spends = sooner _ c.args.at c.in-Mark.n c.args.to c.factor.result (omega arith) c.factor.ensures.spends }
-
-pub factor-returns-then-left-eq0-2 : goal.factor-returns-then-left-eq0-2
-factor-returns-then-left-eq0-2 t c = record { gives = open-over _ _ _ (sym c.word_at-w.ensures.value ∙ c.in-Mark.is) c.if-b-eq-MINUS.false c.if-b-eq-OPEN.true c.if-left-eq0-2.true; spends = tt }
-
-pub factor-overflow_sub-left-then-b-eq-OPEN : goal.factor-overflow_sub-left-then-b-eq-OPEN
-factor-overflow_sub-left-then-b-eq-OPEN t c = omega (arith, c.if-left-eq0-2.false)
-
-pub factor-expression-r-requires : goal.factor-expression-r-requires
-factor-expression-r-requires t c =
-    let o = rw c.in-Mark.is at c.word_at-w.ensures.onward in
-    let w = past _ _ _ _ _ _ c.if-b-eq-OPEN.true c.requires.0.1 o in
+pub factor-expression-requires : goal.factor-expression-requires
+factor-expression-requires t c =
+    let w = past _ _ _ _ _ _ (c.if-b-code-2.true ∙ c.code-in-Mark.ensures) c.requires.0.1 c.in-Mark.ensures.onward in
     (omega (arith, c.decreases, c.if-left-eq0-2.false), ((c.requires.0.0, omega arith, omega (arith, c.requires.0, c.if-left-eq0-2.false)), omega arith))
 
-pub factor-returns-in_default : goal.factor-returns-in_default
-factor-returns-in_default t c =
-    let q = c.in_default.is in
-    record { gives = rw q (inside-off _ _ _ (sym c.word_at-w.ensures.value ∙ c.in-Mark.is) c.if-b-eq-MINUS.false c.if-b-eq-OPEN.true c.if-left-eq0-2.false (rw q at c.expression-r.ensures.gives)); spends = rw q tt }
+pub factor-returns-in_err-inner-in-Mark-clause-gives : goal.factor-returns-in_err-inner-in-Mark-clause-gives
+factor-returns-in_err-inner-in-Mark-clause-gives t c =
+    gives_on none (exp_w name_w c.args.head) _ _ _ _ _ c.from_residual.ensures.1
+    (inside-off _ _ _ (sym c.in-Mark.ensures.value) (rw c.code.ensures at c.if-b-code.false) (c.if-b-code-2.true ∙ c.code-in-Mark.ensures) c.if-left-eq0-2.false c.in_err-inner-in-Mark.ensures.gives)
 
 pub factor-close-requires : goal.factor-close-requires
 factor-close-requires t c =
-    let w = past _ _ _ _ _ _ c.if-b-eq-OPEN.true c.requires.0.1 (rw c.in-Mark.is at c.word_at-w.ensures.onward) in
-    let u = rw c.in-Done.is at c.expression-r.ensures.spends in
-    omega (arith, c.requires, c.if-left-eq0-2.false, c.expression-r.auto.tape)
+    let w = past _ _ _ _ _ _ (c.if-b-code-2.true ∙ c.code-in-Mark.ensures) c.requires.0.1 c.in-Mark.ensures.onward in
+    omega (arith, c.requires, c.if-left-eq0-2.false, c.expression.auto.tape, c.in_ok-inner-in-Mark.ensures.spends)
 
-pub factor-returns-then-b-eq-OPEN : goal.factor-returns-then-b-eq-OPEN
-factor-returns-then-b-eq-OPEN t c =
-    let w = past _ _ _ _ _ _ c.if-b-eq-OPEN.true c.requires.0.1 (rw c.in-Mark.is at c.word_at-w.ensures.onward) in
-    let u = rw c.in-Done.is at c.expression-r.ensures.spends in record { gives = grouped _ _ _ (sym c.word_at-w.ensures.value ∙ c.in-Mark.is) c.if-b-eq-MINUS.false c.if-b-eq-OPEN.true c.if-left-eq0-2.false _ _ _ _ _ _ _ c.close.result (rw c.in-Done.is at c.expression-r.ensures.gives) c.close.ensures; spends = paired _ c.args.at c.in-Mark.n c.in-Done.x c.args.to c.in-Done.y _ _ _ c.close.result (omega arith) (omega arith) (omega arith) (omega arith) c.close.ensures }
+pub factor-returns-then-b-code-2-clause-gives : goal.factor-returns-then-b-code-2-clause-gives
+factor-returns-then-b-code-2-clause-gives t c =
+    grouped _ _ _ (sym c.in-Mark.ensures.value) (rw c.code.ensures at c.if-b-code.false) (c.if-b-code-2.true ∙ c.code-in-Mark.ensures) c.if-left-eq0-2.false _ _ _ _ _ _ _ c.close.result c.in_ok-inner-in-Mark.ensures.gives c.close.ensures
 
-pub factor-returns-in-Bad : goal.factor-returns-in-Bad
-factor-returns-in-Bad t c = record { gives = at-bad _ _ _ (sym c.word_at-w.ensures.value ∙ c.in-Bad.is); spends = tt }
+pub factor-returns-then-b-code-2-clause-spends : goal.factor-returns-then-b-code-2-clause-spends
+factor-returns-then-b-code-2-clause-spends t c =
+    let w = past _ _ _ _ _ _ (c.if-b-code-2.true ∙ c.code-in-Mark.ensures) c.requires.0.1 c.in-Mark.ensures.onward in
+    let u = c.in_ok-inner-in-Mark.ensures.spends in
+    paired _ c.args.at c.in-Mark.next c.in_ok-inner-in-Mark.inner.next c.args.to c.in_ok-inner-in-Mark.inner.end _ _ _ c.close.result (omega arith) (omega arith) (omega arith) (omega arith) c.close.ensures
 
-pub factor-returns-in-Name : goal.factor-returns-in-Name
-factor-returns-in-Name t c =
-    let o = rw c.in-Name.is at c.word_at-w.ensures.onward in
-    record { gives = named _ _ _ _ _ _ _ (sym c.word_at-w.ensures.value ∙ c.in-Name.is) (omega arith) c.store_name.ensures; spends = omega arith }
+pub factor-returns-in-Bad-clause-gives : goal.factor-returns-in-Bad-clause-gives
+factor-returns-in-Bad-clause-gives t c = at-bad _ _ _ (sym c.in-Bad.ensures.value) ∙ rw (c.unwanted.ensures, c.in-Bad.is)
 
-pub factor-returns-in-Number : goal.factor-returns-in-Number
-factor-returns-in-Number t c =
-    let o = rw c.in-Number.is at c.word_at-w.ensures.onward in
-    record { gives = numbered _ _ _ _ _ _ _ (sym c.word_at-w.ensures.value ∙ c.in-Number.is) c.store.ensures; spends = omega arith }
+pub factor-returns-in-Name-clause-gives : goal.factor-returns-in-Name-clause-gives
+factor-returns-in-Name-clause-gives t c =
+    let o = c.in-Name.ensures.onward in
+    named _ _ _ _ _ _ _ (sym c.in-Name.ensures.value) (omega arith) c.store_name.ensures
 
-pub factor-returns-else-b-eq-OPEN : goal.factor-returns-else-b-eq-OPEN
-factor-returns-else-b-eq-OPEN t c = record { gives = at_other _ _ _ (sym c.word_at-w.ensures.value ∙ c.in-Mark.is) c.if-b-eq-MINUS.false c.if-b-eq-OPEN.false; spends = tt }
+pub factor-returns-in-Number-clause-gives : goal.factor-returns-in-Number-clause-gives
+factor-returns-in-Number-clause-gives t c = numbered _ _ _ _ _ _ _ (sym c.in-Number.ensures.value) c.store.ensures
 
-pub term-factor-first-requires : goal.term-factor-first-requires
-term-factor-first-requires t c = (omega (arith, c.decreases), c.requires)
+pub factor-returns-else-b-code-2-clause-gives : goal.factor-returns-else-b-code-2-clause-gives
+factor-returns-else-b-code-2-clause-gives t c = at_other _ _ _ (sym c.in-Mark.ensures.value) (rw c.code.ensures at c.if-b-code.false) (rw c.code-in-Mark.ensures at c.if-b-code-2.false) ∙ rw c.unwanted-in-Mark.ensures
 
-pub term-returns-in_default : goal.term-returns-in_default
+pub term-returns-in_err-read-clause-gives : goal.term-returns-in_err-read-clause-gives
 unfolding chain ◌>>=◌ ◌and-then◌
-term-returns-in_default t c = let p = c.in_default.is in record { gives = rw p (rw (rw p at c.factor-first.ensures.gives)); spends = rw p tt }
+term-returns-in_err-read-clause-gives t c = gives_on none (exp_w name_w c.args.head) _ _ _ _ _ c.from_residual.ensures.1 (rw c.in_err-read.ensures.gives)
 
-pub term-loop-after-init : goal.term-loop-after-init
-term-loop-after-init t c = let u = rw c.in-Done.is at c.factor-first.ensures.spends in (λ t g. g, refl, omega arith)
+pub term-returns-in_err-read-2-clause-gives : goal.term-returns-in_err-read-2-clause-gives
+term-returns-in_err-read-2-clause-gives t c =
+    let G = c.loop-next.invariant.0 _ (start _ c.in_ok-read.ensures.gives) in
+    gives_on none (exp_w name_w c.args.head) _ _ _ _ _ c.from_residual-in_err-read-2.ensures.1 (off ((enough _).products _) G (omega (arith, c.loop-next.invariant)) c.in-Some.ensures.joins c.in_err-read-2.ensures.gives)
 
-pub term-product-j-requires : goal.term-product-j-requires
-term-product-j-requires t c = omega (arith, c.loop-after.invariant.2)
-
-pub term-returns-in_default-j : goal.term-returns-in_default-j
-term-returns-in_default-j t c =
-    let G = c.loop-after.invariant.0 _ (start _ (rw c.in-Done.is at c.factor-first.ensures.gives)) in
-    let d = rw c.in_default-j.is at c.product-j.ensures.joins in
-    record { gives = ends ((enough _).products _) G (omega (arith, c.loop-after.invariant.2)) d; spends = omega (arith, c.loop-after.invariant.2) }
-
-pub term-overflow_cast-h : goal.term-overflow_cast-h
-term-overflow_cast-h t c = let o = rw c.in-Done-j.is at c.product-j.ensures.joined in omega arith
-
-pub term-factor-more-requires : goal.term-factor-more-requires
-term-factor-more-requires t c =
-    let u = rw c.in-Done.is at c.factor-first.ensures.spends in
-    let o = rw c.in-Done-j.is at c.product-j.ensures.joined in
-    let k : length c.loop-after.tape ≡ length c.args.tape.now = c.loop-after.invariant.1 ∙ c.factor-first.auto.tape in
-    (omega (arith, c.decreases), ((c.requires.0.0, omega arith, omega (arith, c.requires.0, k, c.loop-after.invariant.2)), omega arith))
-
-pub term-returns-in_default-more : goal.term-returns-in_default-more
-term-returns-in_default-more t c =
-    let G = c.loop-after.invariant.0 _ (start _ (rw c.in-Done.is at c.factor-first.ensures.gives)) in
-    let q = c.in_default-more.is in
-    record { gives = rw q (off ((enough _).products _) G (omega (arith, c.loop-after.invariant.2)) (rw c.in-Done-j.is at c.product-j.ensures.joins) (rw q at c.factor-more.ensures.gives)); spends = rw q tt }
-
-pub term-loop-after-smaller : goal.term-loop-after-smaller
-term-loop-after-smaller t c =
-    let o = rw c.in-Done-j.is at c.product-j.ensures.joined in
-    let u = rw c.in-Done-more.is at c.factor-more.ensures.spends in
-    omega arith
-
-pub term-loop-after-preserved : goal.term-loop-after-preserved
-term-loop-after-preserved t c =
-    let o = rw c.in-Done-j.is at c.product-j.ensures.joined in
-    let u = rw c.in-Done-more.is at c.factor-more.ensures.spends in (
-      λ t g. go_on ((enough _).products _) (c.loop-after.invariant.0 t g) (omega (arith, c.loop-after.invariant.2)) (rw c.in-Done-j.is at c.product-j.ensures.joins) (rw c.in-Done-more.is at c.factor-more.ensures.gives),
-      c.factor-more.auto.tape ∙ c.loop-after.invariant.1,
-      omega (arith, c.loop-after.invariant.2),
+pub term-loop-next-preserved : goal.term-loop-next-preserved
+term-loop-next-preserved t c =
+    let j = c.in-Some.ensures in
+    let u = c.in_ok-read-2.ensures in (
+      λ t g. go_on ((enough _).products _) (c.loop-next.invariant.0 t g) (omega (arith, c.loop-next.invariant)) j.joins u.gives,
+      c.factor-in-Some.auto.tape ∙ c.loop-next.invariant.1,
+      omega (arith, c.loop-next.invariant, j.joined, u.spends),
+      u.gives.counts,
     )
+
+pub term-returns-clause-gives : goal.term-returns-clause-gives
+term-returns-clause-gives t c =
+    let G = c.loop-next.invariant.0 _ (start _ c.in_ok-read.ensures.gives) in
+    rw c.loop-next.invariant.3 (ends ((enough _).products _) G (omega (arith, c.loop-next.invariant)) c.in_default.ensures.joins)

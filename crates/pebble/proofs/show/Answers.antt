@@ -1,4 +1,4 @@
-use Rattle.flatten.specs.Told.{number-some}
+use Rattle.rules.specs.Numbers.{number-some}
 use Rattle.netlist.specs.Answers.{told, its_length}
 use Rattle.pebble.specs.Front.{front, says-refusal, says-spoiled, says-flat}
 use borrow.Author.Rules.{rules}

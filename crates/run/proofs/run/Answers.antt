@@ -26,7 +26,7 @@ loop-net-init c =
     (refl, going-from _ _ _ c.in_ok-net.net.well_formed (c.inputs_fine.ensures.0 c.if-not-inputs_fine.false) c.start.ensures.by_index c.start.ensures.by_index_2)
 
 pub loop-net-smaller : goal.loop-net-smaller
-loop-net-smaller c = sweep-fewer (c.sweep.ensures _ (c.inputs_fine.ensures.0 c.if-not-inputs_fine.false) c.loop-net.invariant.1).1 c.loop-net-test.true
+loop-net-smaller c = sweep-fewer (c.sweep.ensures _ (c.inputs_fine.ensures.0 c.if-not-inputs_fine.false) c.loop-net.invariant.1).1 (search rules)
 
 pub returns : goal.returns
 unfolding told

@@ -1,151 +1,84 @@
-use Prim.Native.Nat.{suc}
-use Rattle.marks.specs.Laws.Lists.{begun, wrong, last, item-off, on, first, first_off, via, spent}
+use Rattle.std.proofs.Common.{refl, sym, ◌∙◌, suc, arith, inl, inr}
+use Rattle.marks.specs.Laws.Exits.{gives_on}
+use Rattle.marks.specs.Laws.Lists.{begun, wrong, last, item-off, on, first, first_off, via}
 use Rattle.marks.specs.Laws.One.{past, there, absent}
 use Rattle.rules.specs.Readers.{any, give}
 use Rattle.statements.specs.Loops.{at-bad, at-number, at_name, at_other, loop-over, head-off, body-off, looped}
 use Rattle.statements.specs.Rows.{statements-row, end_empty}
-use Rattle.tape.specs.Written.{nothing, as-words}
-use mathlib.Core.Path.{refl, sym, ◌∙◌}
-use native.Mathlib.Omega.{arith}
+use Rattle.tape.specs.Encoding.{stmts_w, callee_w}
+use Rattle.tape.specs.Layout.{name_w}
+use Rattle.tape.specs.Written.{none, nothing, as-words}
 use Rattle.statements.proofs.+more_statements_statement_statements.Goals as goal
 
-pub more_statements-loop-k-init : goal.more_statements-loop-k-init
-more_statements-loop-k-init t c = ((1, begun (statements-row _ _) _ _ _ _), refl, omega arith, omega (arith, c.requires), omega arith, omega arith)
+pub more_statements-loop-next-init : goal.more_statements-loop-next-init
+more_statements-loop-next-init t c = ((1, begun (statements-row _ _) _ _ _ _), refl, omega arith, omega (arith, c.requires), omega arith, omega arith, refl)
 
-pub more_statements-separator-d-requires : goal.more_statements-separator-d-requires
-more_statements-separator-d-requires t c = c.loop-k.invariant.3
+pub more_statements-returns-in_err-next-clause-gives : goal.more_statements-returns-in_err-next-clause-gives
+more_statements-returns-in_err-next-clause-gives t c =
+    gives_on none (stmts_w name_w callee_w) _ _ _ _ _ c.from_residual.ensures.1 (wrong (statements-row _ _) c.loop-next.invariant.0.1 c.loop-next.invariant.3 _ c.in_err-next.ensures.value)
 
-pub more_statements-returns-in-Wrong : goal.more_statements-returns-in-Wrong
-more_statements-returns-in-Wrong t c = record { gives = wrong (statements-row _ _) c.loop-k.invariant.0.1 c.loop-k.invariant.3 _ _ (sym c.in-Wrong.is ∙ c.separator-d.ensures.value); spends = tt }
+pub more_statements-returns-in-Last-clause-gives : goal.more_statements-returns-in-Last-clause-gives
+more_statements-returns-in-Last-clause-gives t c =
+    rw c.loop-next.invariant.6 (last (statements-row _ _) c.loop-next.invariant.0.1 c.loop-next.invariant.3 _ _ (rw c.in-Last.is at c.in_ok-next.ensures.value) refl)
 
-pub more_statements-returns-in-Last : goal.more_statements-returns-in-Last
-more_statements-returns-in-Last t c =
-    let x = rw c.in-Last.is at c.separator-d.ensures.parted in
-    record { gives = last (statements-row _ _) c.loop-k.invariant.0.1 c.loop-k.invariant.3 _ _ (sym c.in-Last.is ∙ c.separator-d.ensures.value) refl; spends = omega (arith, c.loop-k.invariant) }
+pub more_statements-returns-in_err-read-in-Another-clause-gives : goal.more_statements-returns-in_err-read-in-Another-clause-gives
+more_statements-returns-in_err-read-in-Another-clause-gives t c =
+    gives_on none (stmts_w name_w callee_w) _ _ _ _ _ c.from_residual-in_err-read-in-Another.ensures.1
+    (item-off (statements-row _ _) c.loop-next.invariant.0.1 c.loop-next.invariant.3 (rw c.in-Another.is at c.in_ok-next.ensures.value) _ c.in_err-read-in-Another.ensures.gives)
 
-pub more_statements-statement-item-requires : goal.more_statements-statement-item-requires
-more_statements-statement-item-requires t c =
-    let x = rw c.in-Another.is at c.separator-d.ensures.parted in
-    (omega (arith, c.decreases), omega (arith, c.requires, c.loop-k.invariant))
+pub more_statements-loop-next-preserved : goal.more_statements-loop-next-preserved
+more_statements-loop-next-preserved t c =
+    let i = c.loop-next.invariant in
+    let u = c.in_ok-read-in-Another.ensures in
+    let p = rw c.in-Another.is at c.in_ok-next.ensures.parted in
+    ((suc i.0.0, on (statements-row _ _) i.0.1 i.3 (rw c.in-Another.is at c.in_ok-next.ensures.value) u.gives), c.statement.auto.tape ∙ i.1, omega arith, omega arith, omega arith, omega arith, u.gives.counts)
 
-pub more_statements-returns-in_default : goal.more_statements-returns-in_default
-more_statements-returns-in_default t c =
-    let p = c.in_default.is in
-    record { gives = rw p (item-off (statements-row _ _) c.loop-k.invariant.0.1 c.loop-k.invariant.3 (sym c.in-Another.is ∙ c.separator-d.ensures.value) (rw p at c.statement-item.ensures.gives)); spends = rw p tt }
+pub statement-returns-then-b-code-clause-gives : goal.statement-returns-then-b-code-clause-gives
+statement-returns-then-b-code-clause-gives t c = at_other _ _ _ (sym c.in-Mark.ensures.value) (rw c.code.ensures at c.if-b-code.true) ∙ rw c.unwanted-then-b-code.ensures
 
-pub more_statements-loop-k-smaller : goal.more_statements-loop-k-smaller
-more_statements-loop-k-smaller t c =
-    let x = rw c.in-Another.is at c.separator-d.ensures.parted in
-    let u = rw c.in-Done.is at c.statement-item.ensures.spends in
-    omega arith
+pub statement-returns-then-left-eq0-clause-gives : goal.statement-returns-then-left-eq0-clause-gives
+statement-returns-then-left-eq0-clause-gives t c = loop-over _ _ _ (sym c.in-Mark.ensures.value) (c.if-b-code.false ∙ c.code.ensures) c.if-left-eq0.true
 
-pub more_statements-loop-k-preserved : goal.more_statements-loop-k-preserved
-more_statements-loop-k-preserved t c =
-    let x = rw c.in-Another.is at c.separator-d.ensures.parted in
-    let u = rw c.in-Done.is at c.statement-item.ensures.spends in (
-      (suc c.loop-k.invariant.0.0, on (statements-row _ _) c.loop-k.invariant.0.1 c.loop-k.invariant.3 (sym c.in-Another.is ∙ c.separator-d.ensures.value) (rw c.in-Done.is at c.statement-item.ensures.gives)),
-      c.statement-item.auto.tape ∙ c.loop-k.invariant.1,
-      omega (arith, c.loop-k.invariant),
-      omega arith,
-      omega (arith, c.loop-k.invariant),
-      omega (arith, c.loop-k.invariant),
-    )
+pub statement-returns-in_err-head-in-Mark-clause-gives : goal.statement-returns-in_err-head-in-Mark-clause-gives
+statement-returns-in_err-head-in-Mark-clause-gives t c =
+    gives_on none (stmts_w name_w callee_w) _ _ _ _ _ c.from_residual.ensures.1 (head-off _ _ _ (sym c.in-Mark.ensures.value) (c.if-b-code.false ∙ c.code.ensures) c.if-left-eq0.false c.in_err-head-in-Mark.ensures.heads)
 
-pub statement-call-requires : goal.statement-call-requires
-statement-call-requires t c = let o = rw c.in-Name.is at c.word_at-w.ensures.onward in omega (arith, c.requires)
+pub statement-returns-in_err-body-in-Mark-clause-gives : goal.statement-returns-in_err-body-in-Mark-clause-gives
+statement-returns-in_err-body-in-Mark-clause-gives t c =
+    gives_on none (stmts_w name_w callee_w) _ _ _ _ _ c.from_residual-in_err-body-in-Mark.ensures.1
+    (body-off _ _ _ (sym c.in-Mark.ensures.value) (c.if-b-code.false ∙ c.code.ensures) c.if-left-eq0.false c.in_ok-head-in-Mark.ensures.heads c.in_err-body-in-Mark.ensures.gives)
 
-pub statement-returns-then-b-ne-GENERATE : goal.statement-returns-then-b-ne-GENERATE
-statement-returns-then-b-ne-GENERATE t c = record { gives = at_other _ _ _ (sym c.word_at-w.ensures.value ∙ c.in-Mark.is) c.if-b-ne-GENERATE.true; spends = tt }
-
-pub statement-returns-then-left-eq0 : goal.statement-returns-then-left-eq0
-statement-returns-then-left-eq0 t c = record { gives = loop-over _ _ _ (sym c.word_at-w.ensures.value ∙ c.in-Mark.is) c.if-b-ne-GENERATE.false c.if-left-eq0.true; spends = tt }
-
-pub statement-loop_head-h-requires : goal.statement-loop_head-h-requires
-statement-loop_head-h-requires t c =
-    let w = past _ _ _ _ _ _ c.if-b-ne-GENERATE.false c.requires.1 (rw c.in-Mark.is at c.word_at-w.ensures.onward) in
+pub statement-loop_head-requires : goal.statement-loop_head-requires
+statement-loop_head-requires t c =
+    let w = past _ _ _ _ _ _ (c.if-b-code.false ∙ c.code.ensures) c.requires.1 c.in-Mark.ensures.onward in
     omega (arith, c.requires)
 
-pub statement-returns-in_default : goal.statement-returns-in_default
-statement-returns-in_default t c = let p = c.in_default.is in record { gives = rw p (head-off _ _ _ (sym c.word_at-w.ensures.value ∙ c.in-Mark.is) c.if-b-ne-GENERATE.false c.if-left-eq0.false (rw p at c.loop_head-h.ensures.heads)); spends = rw p tt }
+pub statement-returns-in-Bad-clause-gives : goal.statement-returns-in-Bad-clause-gives
+statement-returns-in-Bad-clause-gives t c =
+    elim c.in-Bad.is [
+      | inl i ↦ at-bad _ _ _ (sym c.word_at-word.ensures.value ∙ i.1) ∙ rw (c.unwanted.ensures, i.1)
+      | inr i ↦ at-number _ _ _ (sym c.word_at-word.ensures.value ∙ i.3) ∙ rw (c.unwanted.ensures, i.3)
+    ]
 
-pub statement-overflow_add-c : goal.statement-overflow_add-c
-statement-overflow_add-c t c =
-    let w = past _ _ _ _ _ _ c.if-b-ne-GENERATE.false c.requires.1 (rw c.in-Mark.is at c.word_at-w.ensures.onward) in
-    let h = rw c.in-Done.is at c.loop_head-h.ensures.spends in
-    omega (arith, c.requires, c.well_formed)
+pub statement-returns-in-Name-clause-gives : goal.statement-returns-in-Name-clause-gives
+statement-returns-in-Name-clause-gives t c = via _ _ _ _ _ c.call.result (at_name _ _ _ (sym c.in-Name.ensures.value)) c.call.ensures.gives
 
-pub statement-overflow_sub-left : goal.statement-overflow_sub-left
-statement-overflow_sub-left t c = omega (arith, c.if-left-eq0.false)
+pub statement-returns-in_ok-body-in-Mark-clause-gives : goal.statement-returns-in_ok-body-in-Mark-clause-gives
+statement-returns-in_ok-body-in-Mark-clause-gives t c =
+    looped _ _ _ (sym c.in-Mark.ensures.value) (c.if-b-code.false ∙ c.code.ensures) c.if-left-eq0.false c.in_ok-head-in-Mark.ensures.heads c.in_ok-body-in-Mark.ensures.gives c.store.ensures
 
-pub statement-statements-d-requires : goal.statement-statements-d-requires
-statement-statements-d-requires t c =
-    let w = past _ _ _ _ _ _ c.if-b-ne-GENERATE.false c.requires.1 (rw c.in-Mark.is at c.word_at-w.ensures.onward) in
-    let h = rw c.in-Done.is at c.loop_head-h.ensures.spends in
-    (omega (arith, c.decreases, c.if-left-eq0.false), omega (arith, c.requires, c.loop_head-h.auto.tape))
-
-pub statement-returns-in_default-d : goal.statement-returns-in_default-d
-statement-returns-in_default-d t c =
-    let p = c.in_default-d.is in
-    record { gives = rw p (body-off _ _ _ (sym c.word_at-w.ensures.value ∙ c.in-Mark.is) c.if-b-ne-GENERATE.false c.if-left-eq0.false (rw c.in-Done.is at c.loop_head-h.ensures.heads) (rw p at c.statements-d.ensures.gives)); spends = rw p tt }
-
-pub statement-overflow_sub-y : goal.statement-overflow_sub-y
-statement-overflow_sub-y t c = let d = rw c.in-Done-d.is at c.statements-d.ensures.spends in omega arith
-
-pub statement-overflow_sub-y-in-Mark : goal.statement-overflow_sub-y-in-Mark
-statement-overflow_sub-y-in-Mark t c = let d = rw c.in-Done-d.is at c.statements-d.ensures.spends in omega arith
-
-pub statement-store-requires : goal.statement-store-requires
-statement-store-requires t c =
-    let w = past _ _ _ _ _ _ c.if-b-ne-GENERATE.false c.requires.1 (rw c.in-Mark.is at c.word_at-w.ensures.onward) in
-    let h = rw c.in-Done.is at c.loop_head-h.ensures.spends in
-    let d = rw c.in-Done-d.is at c.statements-d.ensures.spends in
-    omega (arith, c.requires, c.loop_head-h.auto.tape, c.statements-d.auto.tape)
-
-pub statement-returns-in-Bad : goal.statement-returns-in-Bad
-statement-returns-in-Bad t c = record { gives = at-bad _ _ _ (sym c.word_at-w.ensures.value ∙ c.in-Bad.is); spends = tt }
-
-pub statement-returns-in-Name : goal.statement-returns-in-Name
-statement-returns-in-Name t c =
-    let o = rw c.in-Name.is at c.word_at-w.ensures.onward in record { gives = via _ _ _ _ _ c.call.result (at_name _ _ _ (sym c.word_at-w.ensures.value ∙ c.in-Name.is)) c.call.ensures.gives; spends = spent 1 1 _ c.args.at c.in-Name.p c.args.to c.args.to c.call.result (omega arith) (omega arith) (omega arith) c.call.ensures.spends }
-
-pub statement-returns-in-Number : goal.statement-returns-in-Number
-statement-returns-in-Number t c = record { gives = at-number _ _ _ (sym c.word_at-w.ensures.value ∙ c.in-Number.is); spends = tt }
-
-pub statement-returns-in-Done-d : goal.statement-returns-in-Done-d
-statement-returns-in-Done-d t c =
-    let w = past _ _ _ _ _ _ c.if-b-ne-GENERATE.false c.requires.1 (rw c.in-Mark.is at c.word_at-w.ensures.onward) in
-    let h = rw c.in-Done.is at c.loop_head-h.ensures.spends in
-    let d = rw c.in-Done-d.is at c.statements-d.ensures.spends in
-    record { gives = looped _ _ _ (sym c.word_at-w.ensures.value ∙ c.in-Mark.is) c.if-b-ne-GENERATE.false c.if-left-eq0.false (rw c.in-Done.is at c.loop_head-h.ensures.heads) (rw c.in-Done-d.is at c.statements-d.ensures.gives) c.store.ensures; spends = omega arith }
-
-pub statements-optional-e-requires : goal.statements-optional-e-requires
-statements-optional-e-requires t c = c.requires.1
-
-pub statements-returns-in-Done : goal.statements-returns-in-Done
+pub statements-returns-in-Some-clause-gives : goal.statements-returns-in-Some-clause-gives
 unfolding any give
-statements-returns-in-Done t c =
-    let e = rw c.in-Done.is at c.optional-e.ensures.past in
-    record { gives = record { value = _; reads = there "END" _ _ _ _ (rw c.in-Done.is at c.optional-e.ensures.spots); wrote = as-words (sym end_empty) (nothing _ _); counts = refl }; spends = omega arith }
+statements-returns-in-Some-clause-gives t c =
+    record { value = _; reads = there "END" _ _ _ _ c.in-Some.ensures.spots; wrote = as-words (sym end_empty) (nothing _ _); counts = refl }
 
-pub statements-statement-first-requires : goal.statements-statement-first-requires
-statements-statement-first-requires t c = (omega (arith, c.decreases), c.requires)
-
-pub statements-returns-in_default-first : goal.statements-returns-in_default-first
+pub statements-returns-in_err-first-clause-gives : goal.statements-returns-in_err-first-clause-gives
 unfolding any
-statements-returns-in_default-first t c =
-    let p = c.in_default-first.is in
-    record { gives = rw p (absent "END" _ _ _ _ (rw c.in_default.is at c.optional-e.ensures.spots) ∙ first_off (statements-row _ _) 0 _ (rw p at c.statement-first.ensures.gives)); spends = rw p tt }
+statements-returns-in_err-first-clause-gives t c =
+    gives_on none (stmts_w name_w callee_w) _ _ _ _ _ c.from_residual.ensures.1 (absent "END" _ _ _ _ c.in_default.ensures.spots ∙ first_off (statements-row _ c.args.left) 0 _ c.in_err-first.ensures.gives)
 
-pub statements-more_statements-requires : goal.statements-more_statements-requires
-statements-more_statements-requires t c =
-    let f = rw c.in-Done-first.is at c.statement-first.ensures.spends in
-    (omega (arith, c.decreases), omega (arith, c.requires, c.statement-first.auto.tape))
-
-pub statements-returns : goal.statements-returns
+pub statements-returns-clause-gives : goal.statements-returns-clause-gives
 unfolding any
-statements-returns t c =
-    let f = rw c.in-Done-first.is at c.statement-first.ensures.spends in record {
-      gives = via _ _ _ _ _ c.more_statements.result (absent "END" _ _ _ _ (rw c.in_default.is at c.optional-e.ensures.spots))
-          (first (statements-row _ _) 0 _ _ c.more_statements.result (rw c.in-Done-first.is at c.statement-first.ensures.gives) c.more_statements.ensures.gives);
-      spends = spent 3 3 _ c.args.at c.in-Done-first.n c.args.to c.in-Done-first.m c.more_statements.result (omega arith) (omega arith) (omega arith) c.more_statements.ensures.spends;
-    }
+statements-returns-clause-gives t c =
+    via _ _ _ _ _ c.more_statements.result (absent "END" _ _ _ _ c.in_default.ensures.spots)
+    (first (statements-row _ _) 0 _ _ c.more_statements.result c.in_ok-first.ensures.gives c.more_statements.ensures.gives)

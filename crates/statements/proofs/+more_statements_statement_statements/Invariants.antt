@@ -15,9 +15,9 @@ decreases-statement l = l.left * 3
 abbrev pub decreases-statements : goal.decreases-statements
 decreases-statements l = l.left * 3 + 2
 
-abbrev pub invariant-more_statements-loop-k : goal.invariant-more_statements-loop-k
-invariant-more_statements-loop-k l =
-    ((k : ℕ) × Listing (statements-row l.text l.left) l.initial.tape 1 l.at l.to l.tape k l.next l.end) × (length l.tape ≡ length l.initial.tape) × (l.at ≤ l.next) × (l.next ≤ length l.text) × (l.to ≤ l.end) × (2 * l.end + l.at ≤ 2 * l.to + l.next)
+abbrev pub invariant-more_statements-loop-next : goal.invariant-more_statements-loop-next
+invariant-more_statements-loop-next l =
+    ((k : ℕ) × Listing (statements-row l.text l.left) l.initial.tape 1 l.at l.to l.tape k l.read.next l.read.end) × (length l.tape ≡ length l.initial.tape) × (l.at ≤ l.read.next) × (l.read.next ≤ length l.text) × (l.to ≤ l.read.end) × (2 * l.read.end + l.at ≤ 2 * l.to + l.read.next) × (l.read.names ≡ 0)
 
-abbrev pub decreases-more_statements-loop-k : goal.decreases-more_statements-loop-k
-decreases-more_statements-loop-k l = length l.text - l.next
+abbrev pub decreases-more_statements-loop-next : goal.decreases-more_statements-loop-next
+decreases-more_statements-loop-next l = length l.text - l.read.next

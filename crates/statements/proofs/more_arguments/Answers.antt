@@ -1,57 +1,32 @@
-use Prim.Native.Nat.{suc}
+use Rattle.std.proofs.Common.{refl, ◌∙◌, suc, arith}
+use Rattle.marks.specs.Laws.Exits.{gives_on}
 use Rattle.marks.specs.Laws.Lists.{begun, wrong, last, item-off, on}
 use Rattle.statements.specs.Rows.{arguments-row}
-use mathlib.Core.Path.{refl, sym, ◌∙◌}
-use native.Mathlib.Omega.{arith}
+use Rattle.tape.specs.Encoding.{arg_w, list_w}
+use Rattle.tape.specs.Kinds.{code}
+use Rattle.tape.specs.Layout.{name_w}
+use Rattle.tape.specs.Written.{none}
 use Rattle.statements.proofs.more_arguments.Goals as goal
 
-pub loop-k-init : goal.loop-k-init
-loop-k-init c = ((1, begun (arguments-row _ _) _ _ _ _), refl, omega arith, omega (arith, c.requires), omega arith, omega arith)
+pub loop-next-init : goal.loop-next-init
+loop-next-init c = ((1, begun (arguments-row _ _) _ _ _ _), refl, omega arith, omega (arith, c.requires), omega arith, omega arith, refl)
 
-pub separator-d-requires : goal.separator-d-requires
-separator-d-requires c = c.loop-k.invariant.3
+pub returns-in_err-next-clause-gives : goal.returns-in_err-next-clause-gives
+returns-in_err-next-clause-gives c =
+    gives_on none (list_w (arg_w name_w (code c.args.kind))) _ _ _ _ _ c.from_residual.ensures.1 (wrong (arguments-row _ _) c.loop-next.invariant.0.1 c.loop-next.invariant.3 _ c.in_err-next.ensures.value)
 
-pub shape_of-tape-in-Wrong : goal.shape_of-tape-in-Wrong
-shape_of-tape-in-Wrong c = c.loop-k.invariant.1
+pub returns-in-Last-clause-gives : goal.returns-in-Last-clause-gives
+returns-in-Last-clause-gives c =
+    rw c.loop-next.invariant.6 (last (arguments-row _ _) c.loop-next.invariant.0.1 c.loop-next.invariant.3 _ _ (rw c.in-Last.is at c.in_ok-next.ensures.value) refl)
 
-pub returns-in-Wrong : goal.returns-in-Wrong
-returns-in-Wrong c = record { gives = wrong (arguments-row _ _) c.loop-k.invariant.0.1 c.loop-k.invariant.3 _ _ (sym c.in-Wrong.is ∙ c.separator-d.ensures.value); spends = tt }
+pub returns-in_err-read-in-Another-clause-gives : goal.returns-in_err-read-in-Another-clause-gives
+returns-in_err-read-in-Another-clause-gives c =
+    gives_on none (list_w (arg_w name_w (code c.args.kind))) _ _ _ _ _ c.from_residual-in_err-read-in-Another.ensures.1
+    (item-off (arguments-row _ _) c.loop-next.invariant.0.1 c.loop-next.invariant.3 (rw c.in-Another.is at c.in_ok-next.ensures.value) _ c.in_err-read-in-Another.ensures.gives)
 
-pub shape_of-tape-in-Last : goal.shape_of-tape-in-Last
-shape_of-tape-in-Last c = c.loop-k.invariant.1
-
-pub returns-in-Last : goal.returns-in-Last
-returns-in-Last c =
-    let x = rw c.in-Last.is at c.separator-d.ensures.parted in
-    record { gives = last (arguments-row _ _) c.loop-k.invariant.0.1 c.loop-k.invariant.3 _ _ (sym c.in-Last.is ∙ c.separator-d.ensures.value) refl; spends = omega (arith, c.loop-k.invariant) }
-
-pub argument-item-requires : goal.argument-item-requires
-argument-item-requires c =
-    let x = rw c.in-Another.is at c.separator-d.ensures.parted in
-    omega (arith, c.requires, c.loop-k.invariant)
-
-pub shape_of-tape-in_default : goal.shape_of-tape-in_default
-shape_of-tape-in_default c = c.argument-item.auto.tape ∙ c.loop-k.invariant.1
-
-pub returns-in_default : goal.returns-in_default
-returns-in_default c =
-    let p = c.in_default.is in
-    record { gives = rw p (item-off (arguments-row _ _) c.loop-k.invariant.0.1 c.loop-k.invariant.3 (sym c.in-Another.is ∙ c.separator-d.ensures.value) (rw p at c.argument-item.ensures.gives)); spends = rw p tt }
-
-pub loop-k-smaller : goal.loop-k-smaller
-loop-k-smaller c =
-    let x = rw c.in-Another.is at c.separator-d.ensures.parted in
-    let u = rw c.in-Done.is at c.argument-item.ensures.spends in
-    omega arith
-
-pub loop-k-preserved : goal.loop-k-preserved
-loop-k-preserved c =
-    let x = rw c.in-Another.is at c.separator-d.ensures.parted in
-    let u = rw c.in-Done.is at c.argument-item.ensures.spends in (
-      (suc c.loop-k.invariant.0.0, on (arguments-row _ _) c.loop-k.invariant.0.1 c.loop-k.invariant.3 (sym c.in-Another.is ∙ c.separator-d.ensures.value) (rw c.in-Done.is at c.argument-item.ensures.gives)),
-      c.argument-item.auto.tape ∙ c.loop-k.invariant.1,
-      omega (arith, c.loop-k.invariant),
-      omega arith,
-      omega (arith, c.loop-k.invariant),
-      omega (arith, c.loop-k.invariant),
-    )
+pub loop-next-preserved : goal.loop-next-preserved
+loop-next-preserved c =
+    let i = c.loop-next.invariant in
+    let u = c.in_ok-read-in-Another.ensures in
+    let p = rw c.in-Another.is at c.in_ok-next.ensures.parted in
+    ((suc i.0.0, on (arguments-row _ _) i.0.1 i.3 (rw c.in-Another.is at c.in_ok-next.ensures.value) u.gives), c.argument.auto.tape ∙ i.1, omega arith, omega arith, omega arith, omega arith, u.gives.counts)

@@ -5,9 +5,9 @@ use lib.ListN.{length}
 use mathlib.Core.Path.{◌≡◌}
 use Rattle.statements.proofs.more_values.Given as goal
 
-abbrev pub invariant-loop-k : goal.invariant-loop-k
-invariant-loop-k l =
-    ((k : ℕ) × Listing (values-row l.text) l.initial.tape 1 l.at l.to l.tape k l.next l.end) × (length l.tape ≡ length l.initial.tape) × (l.at ≤ l.next) × (l.next ≤ length l.text) × (l.to ≤ l.end) × (2 * l.end + l.at ≤ 2 * l.to + l.next)
+abbrev pub invariant-loop-next : goal.invariant-loop-next
+invariant-loop-next l =
+    ((k : ℕ) × Listing (values-row l.text) l.initial.tape 1 l.at l.to l.tape k l.read.next l.read.end) × (length l.tape ≡ length l.initial.tape) × (l.at ≤ l.read.next) × (l.read.next ≤ length l.text) × (l.to ≤ l.read.end) × (2 * l.read.end + l.at ≤ 2 * l.to + l.read.next) × (l.read.names ≡ 0)
 
-abbrev pub decreases-loop-k : goal.decreases-loop-k
-decreases-loop-k l = length l.text - l.next
+abbrev pub decreases-loop-next : goal.decreases-loop-next
+decreases-loop-next l = length l.text - l.read.next

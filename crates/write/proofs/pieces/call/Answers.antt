@@ -1,4 +1,4 @@
-use Rattle.std.proofs.Common.{sym, refl}
+use Rattle.std.proofs.Common.{rules, sym, refl}
 use Rattle.write.specs.Pieces.{call_of}
 use Rattle.write.specs.Taken.{begin, piece_is, step, stop, last}
 use Rattle.write.proofs.pieces.call.Goals as goal
@@ -14,4 +14,4 @@ returns g c =
     let laws = g.P.Pieces.laws in
     let w0 = piece_is (sym c.name.ensures) (begin laws c.args.to.now (call_of c.args.kind) refl) in
     let w1 = step laws w0 c.in_ok-piece.ensures in
-    last laws _ _ w1 c.piece-2.ensures
+    last laws c.piece-2.result c.piece-2.new.self w1 (search rules)

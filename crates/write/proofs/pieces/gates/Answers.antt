@@ -1,4 +1,4 @@
-use Rattle.std.proofs.Common.{[], sym, ap, ◌∙◌}
+use Rattle.std.proofs.Common.{rules, [], sym, ap, ◌∙◌}
 use Rattle.rules.specs.Flat.{gate_text, gates_text}
 use Rattle.write.specs.Pieces.{gates-begin, gates-open, gates-close}
 use Rattle.write.specs.Taken.{begin-one, apart, piece_is, step, stop, finish}
@@ -18,14 +18,14 @@ returns-in_err-mark g c =
     let laws = g.P.Pieces.laws in
     let w0 = apart _ (gates-open c.args.net.words.now _ _ c.loop-i-test.true) c.loop-i.invariant in
     let w1 = step laws (piece_is (ap gate_text (sym c.gate.ensures)) w0) c.in_ok-gate.ensures in
-    rw c.from_residual-in_err-mark.ensures (stop laws w1 c.in_err-mark.ensures)
+    rw c.from_residual-in_err-mark.ensures (stop laws w1 (search rules))
 
 pub returns-in_err-piece : goal.returns-in_err-piece
 returns-in_err-piece g c =
     let laws = g.P.Pieces.laws in
     let w0 = apart _ (gates-open c.args.net.words.now _ _ c.loop-i-test.true) c.loop-i.invariant in
     let w1 = step laws (piece_is (ap gate_text (sym c.gate.ensures)) w0) c.in_ok-gate.ensures in
-    let w2 = step laws w1 c.in_ok-mark.ensures in
+    let w2 = step laws {t = c.mark.new.to} w1 (search rules) in
     rw c.from_residual-in_err-piece.ensures (stop laws w2 c.in_err-piece.ensures)
 
 pub loop-i-preserved : goal.loop-i-preserved
@@ -33,7 +33,7 @@ loop-i-preserved g c =
     let laws = g.P.Pieces.laws in
     let w0 = apart _ (gates-open c.args.net.words.now _ _ c.loop-i-test.true) c.loop-i.invariant in
     let w1 = step laws (piece_is (ap gate_text (sym c.gate.ensures)) w0) c.in_ok-gate.ensures in
-    let w2 = step laws w1 c.in_ok-mark.ensures in
+    let w2 = step laws {t = c.mark.new.to} w1 (search rules) in
     let w3 = step laws w2 c.in_ok-piece.ensures in
     w3
 

@@ -1,4 +1,4 @@
-use Rattle.std.proofs.Common.{sym, refl}
+use Rattle.std.proofs.Common.{rules, sym, refl}
 use Rattle.rules.specs.Netlist.{gates}
 use Rattle.write.specs.Pieces.{parts, parts-of}
 use Rattle.write.specs.Taken.{begin, step, stop, last}
@@ -86,4 +86,4 @@ returns g c =
     let w5 = step laws w4 c.in_ok-vars.ensures in
     let w6 = step laws w5 c.in_ok-piece-3.ensures in
     let w7 = step laws w6 c.in_ok-gates.ensures in
-    last laws _ _ w7 c.piece-4.ensures
+    last laws c.piece-4.result c.piece-4.new.self w7 (search rules)

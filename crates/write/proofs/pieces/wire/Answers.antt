@@ -1,4 +1,4 @@
-use Rattle.std.proofs.Common.{[], ◌∷◌, sym, refl, ◌∙◌}
+use Rattle.std.proofs.Common.{rules, [], ◌∷◌, sym, refl, ◌∙◌}
 use Rattle.rules.specs.Text.{bytes}
 use Rattle.rules.specs.Flat.{decimal, wire_text}
 use Rattle.write.specs.Taken.{begin, piece_is, step, stop, last}
@@ -9,12 +9,12 @@ unfolding wire_text
 returns-in_err-piece g c =
     let laws = g.P.Pieces.laws in
     let w0 = begin laws c.args.to.now (bytes "w" ∷ decimal c.args.number ∷ []) refl in
-    rw c.from_residual.ensures (stop laws w0 c.in_err-piece.ensures)
+    rw c.from_residual.ensures (stop laws w0 (search rules))
 
 pub returns : goal.returns
 unfolding wire_text
 returns g c =
     let laws = g.P.Pieces.laws in
     let w0 = begin laws c.args.to.now (bytes "w" ∷ decimal c.args.number ∷ []) refl in
-    let w1 = step laws w0 c.in_ok-piece.ensures in
+    let w1 = step laws {t = c.piece.new.self} w0 (search rules) in
     last laws _ _ (piece_is (sym (c.as_slice.ensures ∙ c.decimal_of.ensures)) w1) c.piece-2.ensures
