@@ -1,7 +1,8 @@
 -- Laws of the declarations of a block. Assumes nothing.
-use Rattle.std.specs.Prelude.{◌≡◌, ℕ, ◌+◌, ◌≤◌, ◌<◌, true, false, Result, Ok, Err, List, length, set}
+use Rattle.std.specs.Prelude.{◌≡◌, ℕ, ◌+◌, ◌≤◌, ◌<◌, true, false, Result, Ok, Err, IsErrAnd, List, length, set}
 use Rattle.std.proofs.Math.Path.{refl}
 use Rattle.std.proofs.Common.{◌∙◌, lt-ltb, le-ltb}
+use Rattle.std.proofs.lemmas.Result.{err_from_is_err_and}
 use Rattle.rules.specs.Text.{pick}
 use Rattle.rules.specs.Outcome.{Out, ok, refuse}
 use Rattle.rules.specs.Words.{word_at}
@@ -14,6 +15,7 @@ use Rattle.tape.specs.Written.{Got, Gives, none, stored, later, as-words}
 use Rattle.tape.specs.declared.Read.{Read}
 use Rattle.rules.specs.declared.Refusal.{Refusal}
 use Rattle.marks.specs.Marks.{is_code}
+use Rattle.marks.specs.Laws.Exits.{Refused}
 use Rattle.marks.specs.Laws.One.{on, stop, there, absent, spelt_is}
 use Rattle.expressions.specs.Words.{bounds_w}
 use Rattle.declarations.specs.Kept.{Vectored, Vectors}
@@ -62,6 +64,10 @@ module _ (s : List ℕ) (k v at : ℕ) where
   unfolding sort_w give
   num-got o e = record { value = num; reads = there "NUM" s at _ _ o; wrote = stored e; counts = refl }
 
+-- the exit of a `?`: the refusal of a part is that of the whole
+pub vectors_on : (s : List ℕ) (at : ℕ) (t : List ℕ) (to : ℕ) (u : List ℕ) (r : Result Read Refusal) (e : Refusal) → IsErrAnd r (λ y. y ≡ e) → Refused (vectored s at) e → Vectors s at t to u r
+vectors_on s at t to u r e h g = let p = err_from_is_err_and r h in rw (p.1, p.2) g
+
 module _ (s : List ℕ) (at : ℕ) {x a : ℕ} (o : mark s "(" at ≡ ok (x, a)) where
   pub bounds-off : {i j : ℕ} → bounds s a ≡ refuse i j → vectored s at ≡ refuse i j
   unfolding vectored
@@ -82,14 +88,14 @@ module _ (s : List ℕ) (at : ℕ) {x a : ℕ} (o : mark s "(" at ≡ ok (x, a))
         unfolding vectored
         kind-off h = on _ _ _ o ∙ on _ _ _ d.reads ∙ on _ _ _ e ∙ on _ _ _ f ∙ stop _ _ _ h
 
-        pub vectored-got : {i j : ℕ} → mark s "WIRE" g ≡ ok (i, j) → Vectored s at t to u j m 0
+        pub vectored-got : {i j : ℕ} → mark s "WIRE" g ≡ ok (i, j) → Vectored s at t to u j m c
         unfolding vectored bounds_w give
         vectored-got h = record {
           low = d.value.0;
           high = d.value.1;
           reads = on _ _ _ o ∙ on _ _ _ d.reads ∙ on _ _ _ e ∙ on _ _ _ f ∙ on _ _ _ h;
           wrote = d.wrote;
-          size = refl;
+          size = d.counts;
         }
 
 -- ---- ports and declarations
@@ -107,22 +113,15 @@ pub placed : {A : Type 0} {size : A → ℕ} {words : A → List ℕ} {o x : Out
 placed e g = record { value = g.value; reads = e ∙ g.reads; wrote = g.wrote; counts = g.counts }
 
 module _ (s : List ℕ) (k i at p q : ℕ) (n : declared s i at ≡ ok (spelling s p q, q)) (l : q ≤ length s) {x a : ℕ} (c : mark s ":" q ≡ ok (x, a)) where
-  pub port-off : {j y : ℕ} → a_type s a ≡ refuse j y → port s i 0 at ≡ refuse j y
-  unfolding port
-  port-off e = on _ _ _ n ∙ on _ _ _ c ∙ stop _ _ _ e
-
-  pub port-got : {t u : List ℕ} {to m z d : ℕ} → Got none (sort_w name_w k (spelt p q)) (a_type s a) t to u m z d → Got none (decl_w name_w k) (port s i 0 at) t to u m z 0
+  pub port-gives : (t : List ℕ) (to : ℕ) (u : List ℕ) (r : Result Read Refusal) → Gives none (sort_w name_w k (spelt p q)) (a_type s a) t to u r → Gives none (decl_w name_w k) (port s i 0 at) t to u r
   unfolding port decl_w give
-  port-got e = record {
+  port-gives t to u (Ok r) e = record {
     value = record { name = spelling s p q; sort = e.value };
     reads = on _ _ _ n ∙ on _ _ _ c ∙ on _ _ _ e.reads;
     wrote = as-words (rw (spelt_is s p q l)) e.wrote;
-    counts = refl;
+    counts = e.counts;
   }
-
-  pub port-gives : (t : List ℕ) (to : ℕ) (u : List ℕ) (r : Result Read Refusal) → Gives none (sort_w name_w k (spelt p q)) (a_type s a) t to u r → Gives none (decl_w name_w k) (port s i 0 at) t to u r
-  port-gives t to u (Ok r) e = rw e.counts (port-got e)
-  port-gives t to u (Err r) e = port-off e
+  port-gives t to u (Err r) e = on _ _ _ n ∙ on _ _ _ c ∙ stop _ _ _ e
 
   pub sort-off : {j y : ℕ} → if_next s "NUM" (give num) (a_type s) a ≡ refuse j y → local s i 0 at ≡ refuse j y
   unfolding local
@@ -133,11 +132,11 @@ module _ (s : List ℕ) (k i at p q : ℕ) (n : declared s i at ≡ ok (spelling
     unfolding local
     local-off f = on _ _ _ n ∙ on _ _ _ c ∙ on _ _ _ e.reads ∙ stop _ _ _ f
 
-    pub local-got : {j y : ℕ} → mark s ";" m ≡ ok (j, y) → Got none (decl_w name_w k) (local s i 0 at) t to u y z 0
+    pub local-got : {j y : ℕ} → mark s ";" m ≡ ok (j, y) → Got none (decl_w name_w k) (local s i 0 at) t to u y z d
     unfolding local decl_w give
     local-got f = record {
       value = record { name = spelling s p q; sort = e.value };
       reads = on _ _ _ n ∙ on _ _ _ c ∙ on _ _ _ e.reads ∙ on _ _ _ f;
       wrote = as-words (rw (spelt_is s p q l)) e.wrote;
-      counts = refl;
+      counts = e.counts;
     }

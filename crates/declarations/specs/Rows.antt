@@ -3,7 +3,7 @@ use Rattle.std.specs.Prelude.{◌≡◌, ℕ, suc, List, [], ◌∷◌}
 use Rattle.std.proofs.Common.{arith}
 use Rattle.rules.specs.Grammar.{declared, port, local}
 use Rattle.rules.proofs.Laws.Enough.{enough}
-use Rattle.tape.specs.Layout.{name_w}
+use Rattle.tape.specs.Layout.{name_w, VAR}
 use Rattle.tape.specs.Encoding.{list_w, decl_w, generic_w}
 use Rattle.tape.specs.Written.{none}
 use Rattle.marks.specs.Laws.Lists.{Row, list-empty, list-split}
@@ -18,5 +18,5 @@ generics-row s = record { empty = list-empty _; split = list-split _; grows = gr
 pub ports-row : (s : List ℕ) (k : ℕ) → Row s none (decl_w name_w k) from (list_w (decl_w name_w k)) [] ◌∷◌ (port s) "," "]"
 ports-row s k = record { empty = list-empty _; split = list-split _; grows = grows; again = (enough s).port-lists }
 
-pub locals-row : (s : List ℕ) → Row s none (decl_w name_w 13) from (list_w (decl_w name_w 13)) [] ◌∷◌ (local s) "VAR" "BEGIN"
+pub locals-row : (s : List ℕ) → Row s none (decl_w name_w VAR) from (list_w (decl_w name_w VAR)) [] ◌∷◌ (local s) "VAR" "BEGIN"
 locals-row s = record { empty = list-empty _; split = list-split _; grows = grows; again = (enough s).variables }

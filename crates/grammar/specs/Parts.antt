@@ -1,5 +1,5 @@
 -- Laws of blocks. Assumes nothing.
-use Rattle.std.specs.Prelude.{◌≡◌, refl, ℕ, ◌+◌, ◌-◌, ◌≤◌, ◌<◌, Result, length, set}
+use Rattle.std.specs.Prelude.{◌≡◌, ℕ, ◌+◌, ◌-◌, ◌≤◌, ◌<◌, Result, Ok, Err, length, set}
 use Rattle.std.proofs.Common.{ap, ◌∙◌, arith, lt-ltb, le-ltb}
 use mathlib.Core.List.{List, [], ◌∷◌, append_assoc}
 use Rattle.rules.specs.Text.{pick}
@@ -14,7 +14,7 @@ use Rattle.rules.specs.declared.Refusal.{Refusal}
 use Rattle.marks.specs.Laws.One.{on, stop, spelt_is}
 use Rattle.marks.specs.Laws.Lists.{and-rest, via}
 use Rattle.declarations.specs.Kept.{from}
-use Rattle.grammar.specs.Titles.{Titled}
+use Rattle.grammar.specs.Titles.{Titled, Titles}
 use Rattle.grammar.specs.Rows.{blocks-row}
 
 -- ---- a block up to its BEGIN
@@ -44,16 +44,10 @@ module _ (s : List ℕ) (at p q : ℕ) (n : a_name s at ≡ ok (spelling s p q, 
         count₃ : length g.value + length i.value + length o.value ≡ k
         count₃ = omega (arith, g.counts, i.counts, o.counts)
 
-        pub locals-off : {z r : ℕ} → rest s [] ◌∷◌ (local s) "VAR" "BEGIN" k h ≡ refuse z r → a_block s 0 0 at ≡ refuse z r
+        pub titled : q ≤ length s → (t : List ℕ) (to : ℕ) → v ≡ set t to (pack BLOCK 0 (spelt p q)) → start ≡ to + 1 → (z : List ℕ) (r : Result Read Refusal)
+            → Gives (from k) (list_w (decl_w name_w VAR)) (rest s [] ◌∷◌ (local s) "VAR" "BEGIN" k h) y j z r → Titles s at t to z r
         unfolding a_block pick
-        locals-off l =
-            on _ _ _ n ∙ on _ _ _ g.reads ∙ on _ _ _ (ap (λ k. ports s k a) count₁ ∙ i.reads) ∙ on _ _ _ (ap (λ k. ports s k d) count₂ ∙ o.reads)
-            ∙ stop _ _ _ (ap (λ k. rest s [] ◌∷◌ (local s) "VAR" "BEGIN" k h) count₃ ∙ l)
-
-        pub titled : q ≤ length s → {z : List ℕ} {m r c' : ℕ} → Got (from k) (list_w (decl_w name_w VAR)) (rest s [] ◌∷◌ (local s) "VAR" "BEGIN" k h) y j z m r c'
-            → (t : List ℕ) (to : ℕ) → v ≡ set t to (pack BLOCK 0 (spelt p q)) → start ≡ to + 1 → Titled s at t to z m r
-        unfolding a_block pick
-        titled z l t to e b = record {
+        titled b t to e f z (Ok r) l = record {
           called = spelling s p q;
           generics = g.value;
           inputs = i.value;
@@ -62,8 +56,11 @@ module _ (s : List ℕ) (at p q : ℕ) (n : a_name s at ≡ ok (spelling s p q, 
           goes =
               on _ _ _ n ∙ on _ _ _ g.reads ∙ on _ _ _ (ap (λ k. ports s k a) count₁ ∙ i.reads) ∙ on _ _ _ (ap (λ k. ports s k d) count₂ ∙ o.reads)
               ∙ on _ _ _ (ap (λ k. rest s [] ◌∷◌ (local s) "VAR" "BEGIN" k h) count₃ ∙ l.reads);
-          wrote = as-words (rw (spelt_is s p q z)) (later (stored e) (later (rw b at g.wrote) (later i.wrote (later o.wrote l.wrote))));
+          wrote = as-words (rw (spelt_is s p q b)) (later (stored e) (later (rw f at g.wrote) (later i.wrote (later o.wrote l.wrote))));
         }
+        titled b t to e f z (Err r) l =
+            on _ _ _ n ∙ on _ _ _ g.reads ∙ on _ _ _ (ap (λ k. ports s k a) count₁ ∙ i.reads) ∙ on _ _ _ (ap (λ k. ports s k d) count₂ ∙ o.reads)
+            ∙ stop _ _ _ (ap (λ k. rest s [] ◌∷◌ (local s) "VAR" "BEGIN" k h) count₃ ∙ l)
 
 -- ---- a block
 
@@ -87,13 +84,13 @@ module _ (s : List ℕ) (k p at : ℕ) (h : k < 64) where
     block-off d e = block-any ∙ T.goes ∙ on _ _ _ d.reads ∙ stop _ _ _ e
 
     pub block-got : {v w : List ℕ} {x y z : ℕ} → Got none (stmts_w name_w callee_w) (statements_of s (statement s 8) a) u (c + 1) v x y z → {i j : ℕ} → mark s ";" x ≡ ok (i, j) → w ≡ set v c (pack BODY 0 (y - c - 1))
-        → Got none (block_w name_w callee_w) (a_block s k p at) t to w j y 0
+        → Got none (block_w name_w callee_w) (a_block s k p at) t to w j y z
     unfolding body block_w give
     block-got d e f = record {
       value = record { name = T.called; generics = T.generics; inputs = T.inputs; outputs = T.outputs; locals = T.locals; body = d.value };
       reads = block-any ∙ T.goes ∙ on _ _ _ d.reads ∙ on _ _ _ e;
       wrote = as-words (simp append_assoc) (later T.wrote (patch (λ l. pack BODY 0 l) d.wrote f));
-      counts = refl;
+      counts = d.counts;
     }
 
 -- ---- a text

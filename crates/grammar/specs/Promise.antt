@@ -13,8 +13,8 @@ use Rattle.tape.specs.Encoding.{tape_of, list_w, block_w, callee_w}
 use Rattle.tape.specs.Written.{Got, put_is}
 use Rattle.tape.specs.declared.Read.{Read}
 use Rattle.rules.specs.Reasons.{number}
-use Rattle.rules.specs.declared.Refusal.{Refusal}
 use Rattle.rules.specs.Numbers.{same-refusal}
+use Rattle.rules.specs.declared.Refusal.{Refusal}
 use Rattle.marks.specs.Room.{Room}
 use Rattle.declarations.specs.Kept.{from}
 
@@ -41,6 +41,11 @@ abbrev pub Reads : List ℕ → List ℕ → Result Read Refusal → List ℕ �
 Reads text before (Ok r) after = Stands text before r.next r.end r.names after
 Reads text before (Err e) after = (read_text text (length before) ≡ refuse (number e.reason) e.place) × (after ≡ replicate (length before) 0)
 
+-- the same, but that a refusal says nothing of the table
+abbrev pub Tries : List ℕ → List ℕ → Result Read Refusal → List ℕ → Type 0
+Tries text before (Ok r) after = Stands text before r.next r.end r.names after
+Tries text before (Err e) after = read_text text (length before) ≡ refuse (number e.reason) e.place
+
 -- ---- one input, one outcome
 
 same-done : (text before : List ℕ) (r s : Read) (u v : List ℕ) → Stands text before r.next r.end r.names u → Stands text before s.next s.end s.names v → (r ≡ s) × (u ≡ v)
@@ -49,19 +54,13 @@ same-done text before r s u v a b =
     let i : r.next ≡ s.next = a.to_the_end ∙ sym b.to_the_end in
     let j : r.end ≡ s.end = a.words ∙ ap (λ P. length (tape_of P)) p ∙ sym b.words in
     let k : r.names ≡ s.names = a.blocks ∙ ap length p ∙ sym b.blocks in
-    (same-read r s i j k, a.table ∙ ap (λ P. tape_of P ++ drop r.end before) p ∙ ap (λ l. tape_of b.program ++ drop l before) j ∙ sym b.table)
-  where
-    same-read : (r s : Read) → r.next ≡ s.next → r.end ≡ s.end → r.names ≡ s.names → r ≡ s
-    same-read r s i j k = let e : record { next = r.next; end = r.end; names = r.names } ≡ s = rw (i, j, k) in e
+    (rw (i, j, k), a.table ∙ ap (λ P. tape_of P ++ drop r.end before) p ∙ ap (λ l. tape_of b.program ++ drop l before) j ∙ sym b.table)
 
 pub one-outcome : (text before : List ℕ) (r s : Result Read Refusal) (u v : List ℕ) → Reads text before r u → Reads text before s v → (r ≡ s) × (u ≡ v)
-one-outcome text before (Ok r) (Ok s) u v a b = let (e, f) = same-done text before r s u v a b in (ap Ok e, f)
+one-outcome text before (Ok r) (Ok s) u v a b = let p = same-done text before r s u v a b in (ap Ok p.0, p.1)
 one-outcome text before (Ok r) (Err e) u v a b = let z : ◌≡◌ {A = ℕ} 0 1 = cc (a.reads, b.0) in absurd (omega arith)
-one-outcome text before (Err e) (Ok r) u v a b = let z : ◌≡◌ {A = ℕ} 0 1 = cc (a.0, b.reads) in absurd (omega arith)
-one-outcome text before (Err e) (Err f) u v a b =
-    let n : number e.reason ≡ number f.reason = cc (a.0, b.0) in
-    let p : e.place ≡ f.place = cc (a.0, b.0) in
-    (ap Err (same-refusal e f n p), a.1 ∙ sym b.1)
+one-outcome text before (Err e) (Ok s) u v a b = let z : ◌≡◌ {A = ℕ} 0 1 = cc (a.0, b.reads) in absurd (omega arith)
+one-outcome text before (Err e) (Err f) u v a b = (ap Err (same-refusal e f (cc (a.0, b.0)) (cc (a.0, b.0))), a.1 ∙ sym b.1)
 
 -- ---- a second text of the same size fits beside the first: after its words there is room to read one more
 

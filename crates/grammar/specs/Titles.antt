@@ -1,5 +1,6 @@
 -- A block up to its BEGIN. Assumes nothing.
 use Rattle.std.specs.Prelude.{◌≡◌, ℕ, Result, Ok, Err, IsErrAnd, List, ◌∷◌, ◌++◌}
+use Rattle.std.proofs.lemmas.Result.{err_from_is_err_and}
 use Rattle.rules.specs.Outcome.{refuse}
 use Rattle.rules.specs.Syntax.{Name, Decl}
 use Rattle.rules.specs.Readers.{◌>>=◌, give, mark}
@@ -10,7 +11,7 @@ use Rattle.tape.specs.Written.{Wrote}
 use Rattle.tape.specs.declared.Read.{Read}
 use Rattle.rules.specs.Reasons.{number}
 use Rattle.rules.specs.declared.Refusal.{Refusal}
-use Rattle.std.proofs.lemmas.Result.{err_from_is_err_and}
+use Rattle.marks.specs.Laws.Exits.{Refused}
 
 -- it was read up to n, so that the block is what its body makes of it
 pub record Titled (s : List ℕ) (at : ℕ) (t : List ℕ) (to : ℕ) (u : List ℕ) (n m : ℕ) : Type 0 where
@@ -26,6 +27,6 @@ abbrev pub Titles : List ℕ → ℕ → List ℕ → ℕ → List ℕ → Resul
 Titles s at t to u (Ok r) = Titled s at t to u r.next r.end
 Titles s at t to u (Err e) = a_block s 0 0 at ≡ refuse (number e.reason) e.place
 
--- the exit of a `?`
-pub titles_on : (s : List ℕ) (at : ℕ) (t : List ℕ) (to : ℕ) (u : List ℕ) (r : Result Read Refusal) (e : Refusal) → IsErrAnd r (λ y. y ≡ e) → a_block s 0 0 at ≡ refuse (number e.reason) e.place → Titles s at t to u r
-titles_on s at t to u r e h g = let q = err_from_is_err_and r h in rw (q.1, q.2) g
+-- the exit of a `?`: the refusal of a part is that of the whole
+pub titles_on : (s : List ℕ) (at : ℕ) (t : List ℕ) (to : ℕ) (u : List ℕ) (r : Result Read Refusal) (e : Refusal) → IsErrAnd r (λ y. y ≡ e) → Refused (a_block s 0 0 at) e → Titles s at t to u r
+titles_on s at t to u r e h g = let p = err_from_is_err_and r h in rw (p.1, p.2) g

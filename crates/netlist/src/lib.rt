@@ -63,6 +63,7 @@ fn digit(n: u16) -> u8
 }
 
 // The number of a wire in decimal, with no zero before it: four digits are enough for 1,536 wires.
+// By hand, since the rules give any number at most four digits, and the library gives five from 10,000 on.
 #[tactic(auto, using(crate::proofs::Laws::digits))]
 pub fn decimal_of(n: u16) -> Digits
     ensures { result ≡ decimal n }

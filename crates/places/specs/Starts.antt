@@ -140,3 +140,12 @@ module _ {s t : List ℕ} {end : ℕ} {P : Program} {l₀ l : List ℕ} {i k : �
       go : (Bs : List (Block ℕ Callee)) → Rest s t i end Bs → put l k (starts i Bs) ≡ put l₀ 0 (starts 0 P.blocks) → l ≡ put l₀ 0 (starts 0 P.blocks)
       go [] r e = e
       go (B ∷ Bs) r e = absurd (omega (arith, r.ends, length-append (words_of B) (list_w words_of Bs), block-some B))
+
+  -- the table is full
+  pub finding-full : length P.blocks ≤ k → end ≤ i
+  unfolding list_w
+  finding-full h = go f.left f.rest f.count
+    where
+      go : (Bs : List (Block ℕ Callee)) → Rest s t i end Bs → k + length Bs ≡ length P.blocks → end ≤ i
+      go [] r e = omega (arith, r.ends)
+      go (B ∷ Bs) r e = absurd (omega (arith, e))

@@ -19,11 +19,12 @@ fn first_body(tape: &[u32], at: usize) -> usize
     requires { WrittenBody tape.now at }
     ensures { (body : ℕ) → FirstBody tape.now at body → result ≡ body }
 {
-    let mut i = at;
-    while tape::kind_of(tape[i]) != Kind::BODY {
-        i += 1;
+    for i in at..tape.len() {
+        if tape::is(tape[i], Kind::Body) {
+            return i;
+        }
     }
-    i
+    tape.len()
 }
 
 // The place after the block whose words begin at `at`: its body's word, the last of its own, says how many are inside.
@@ -32,7 +33,7 @@ fn after_block(tape: &[u32], at: usize, end: usize) -> usize
     ensures { (B : Block ℕ Callee) → HereBlock tape.now at end B → result ≡ at + length (block_w slot_w meant_w B) }
 {
     let body = first_body(tape, at + 1);
-    body + 1 + tape::value_of(tape[body])
+    unfold::body_at(tape, body).end
 }
 
 // Where the words of each block begin, of the `end` words that are used.
@@ -41,11 +42,12 @@ pub fn places(tape: &[u32], end: usize, into: &mut [usize; 64])
     ensures by_index { (s : List ℕ) (P : Program) → Held s tape.now end P → into.new ≡ put into.old 0 (starts 0 P.blocks) }
     ensures by_index_2 { (s : List ℕ) (P : Program) → Held s tape.now end P → Shelf (length s) P tape.now into.new end }
 {
-    let mut i: usize = 0;
-    let mut k: usize = 0;
-    while i < end {
-        into[k] = i;
-        i = after_block(tape, i, end);
-        k += 1;
+    let mut at: usize = 0;
+    for k in 0..64 {
+        if at >= end {
+            return;
+        }
+        into[k] = at;
+        at = after_block(tape, at, end);
     }
 }

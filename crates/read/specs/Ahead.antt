@@ -1,5 +1,5 @@
 -- What stands ahead in a text, and what the readers make of it. Assumes nothing.
-use Rattle.std.specs.Prelude.{◌≡◌, refl, List, [], ◌∷◌, ◌++◌, ℕ, zero, suc, ◌+◌, ◌-◌, ◌*◌, ◌/◌, ◌%◌, ◌≤◌, ◌<◌, get_or, length, drop}
+use Rattle.std.specs.Prelude.{◌≡◌, refl, List, [], ◌∷◌, ◌++◌, ℕ, zero, suc, ◌+◌, ◌-◌, ◌*◌, ◌/◌, ◌%◌, ◌≤◌, ◌<◌, get_or, length, drop, Option, None, Some, MatchOption, unwrap_or}
 use Rattle.std.proofs.Common.{sym, ap, subst, ◌∙◌, append_assoc, arith, drop-drop}
 use Rattle.std.proofs.Math.Decide.{dec_lt}
 use Rattle.std.proofs.Math.Seq.{drop-append_seam}
@@ -238,10 +238,14 @@ module _ (t : List ℕ) where
   value_full (so-3 x y e) h = absurd (omega arith)
   value_full (so-4 x y u e) h = rw e (four x y u)
 
--- none of the first nine kinds: it is the last
-pub last-kind : {t : List ℕ} {r : ℕ} → r ≤ 9 → 9 ≤ r → ((j : ℕ) → j < r → Starts t 0 (joined (call_of j)) → ⊥) → KindReads t r
-last-kind {t} {r} h g f k ps l a = go (dec_lt k r)
+-- the first of the nine kinds whose call stands there, or none of them: then it is the last
+pub kind-found : {t : List ℕ} {r : ℕ} (found : Option ℕ)
+    → MatchOption found ((j : ℕ) → 0 ≤ j → j < 9 → Starts t 0 (joined (call_of j)) → ⊥)
+    (λ i. (0 ≤ i) × (i < 9) × Starts t 0 (joined (call_of i)) × ((j : ℕ) → 0 ≤ j → j < i → Starts t 0 (joined (call_of j)) → ⊥))
+    → r ≡ unwrap_or found 9 → KindReads t r
+kind-found {t} {r} None f e k ps l a = go (dec_lt k 9)
   where
-    go : Dec (k < r) → r ≡ k
-    go (yes i) = absurd (f k i (call-starts k a))
+    go : Dec (k < 9) → r ≡ k
+    go (yes i) = absurd (f k (omega arith) i (call-starts k a))
     go (no i) = omega arith
+kind-found (Some i) f e k ps l a = e ∙ call-one i k (omega (arith, f.1)) l f.2 a

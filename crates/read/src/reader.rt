@@ -91,12 +91,9 @@ impl Reader<'_> {
     fn kind(&self) -> u16
         ensures { KindReads self.now.rest.now result }
     {
-        for kind in Gate::CONNECT..Gate::ONE {
-            if compare::calls(self.rest, 0, kind) {
-                return kind;
-            }
-        }
-        Gate::ONE
+        (Gate::CONNECT..Gate::ONE)
+            .find(|kind| compare::calls(self.rest, 0, *kind))
+            .unwrap_or(Gate::ONE)
     }
 
     // The ports of a line that starts with wire s: how many.

@@ -1,6 +1,6 @@
 -- Laws of statements, by the word that each begins with. Assumes nothing.
 use Rattle.std.specs.Prelude.{◌≡◌, refl, ℕ, zero, suc, ◌+◌, ◌-◌, ◌≤◌, List, [], ◌∷◌, true, false, length, set}
-use Rattle.std.proofs.Common.{◌∙◌, sub-one, append-nil, append_assoc}
+use Rattle.std.proofs.Common.{sym, ◌∙◌, sub-one, append-nil, append_assoc}
 use borrow.Author.Tests.{eq-eqb, ne_eqb}
 use Rattle.rules.specs.declared.Word.TheVariants.{Bad, Name as Named, Number, Mark}
 use Rattle.rules.specs.Text.{pick}
@@ -124,3 +124,7 @@ module _ (s : List ℕ) (k at p q : ℕ) (n : a_name s at ≡ ok (spelling s p q
       wrote = as-words (rw (spelt_is s p q l)) (later (stored f) e.wrote);
       counts = refl;
     }
+
+-- a word that begins no statement, as the check finds it
+pub not_begun : (s : List ℕ) (left at : ℕ) {b p q : ℕ} → Mark b p q ≡ word_at s at → (b ≡ 5 → ⊥) → statement s left at ≡ refuse 4 p
+not_begun s left at e f = at_other s left at (sym e) f

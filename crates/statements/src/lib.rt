@@ -178,6 +178,7 @@ fn loop_head(text: &[u8], tape: &mut [u32], at: usize, to: usize, p: usize) -> R
 }
 
 // A statement, where `left` more loops may stand inside one another.
+#[tactic(auto, using(crate::specs::Loops::not_begun))]
 #[cycle(more_statements_statement_statements)]
 fn statement(
     text: &[u8],

@@ -1,6 +1,6 @@
 -- A whole unfolding: from main on the tape to the netlist's words. Assumes nothing.
-use Rattle.std.specs.Prelude.{◌≡◌, refl, ℕ, suc, ◌+◌, ◌-◌, ◌*◌, ◌≤◌, Bool, false, List, [], ◌∷◌, ◌++◌, map, get_or, set, drop, replicate}
-use Rattle.std.proofs.Common.{sym, ◌∙◌, arith, length-set}
+use Rattle.std.specs.Prelude.{◌≡◌, refl, ℕ, suc, ◌+◌, ◌-◌, ◌*◌, ◌≤◌, Bool, false, List, [], ◌∷◌, ◌++◌, map, get_or, set, drop, replicate, Result, Ok, Err}
+use Rattle.std.proofs.Common.{sym, ◌∙◌, arith}
 use Rattle.std.proofs.Math.Path.{ap, subst}
 use Rattle.std.proofs.Math.ListN.{length}
 use Rattle.std.proofs.lemmas.List.{length-replicate, get_or-replicate}
@@ -28,20 +28,17 @@ use Rattle.unfold.specs.Header.{HereBlock, WrittenBlock, body_w, after_locals}
 use Rattle.unfold.specs.Statements.{HereStmts}
 use Rattle.unfold.specs.Shelf.{Shelf, body_from, body_to}
 use Rattle.start.specs.First.{begun, main-refused, body_refused, body-done, begun-suits}
-use Rattle.start.specs.Begins.{Begins, BeginsAs}
+use Rattle.start.specs.Begins.{Begins}
 use Rattle.start.specs.declared.Begun.{Begun}
-use Rattle.start.specs.declared.Start.TheVariants.{Body as Entered, No as Refused}
+use Rattle.rules.specs.declared.Refusal.{Refusal}
+use Rattle.rules.specs.Reasons.{number as number_of}
 use Rattle.places.specs.Held.{Held}
-use Rattle.cycle.specs.declared.Out.{Out}
-use Rattle.cycle.specs.declared.Out.TheVariants.{Done, No}
 use Rattle.cycle.specs.Task.{Task, Answers, refusal, success}
-use Rattle.unfolding.specs.declared.Unfolded.{Unfolded}
-use Rattle.unfolding.specs.declared.Unfolded.TheVariants.{Steps, No as Not}
 
 -- what is answered, and the lent netlist of so many words, where the rules give o. A refusal says nothing of the words
-unfoldable pub Nets : Outcome Net → ℕ → Unfolded → List ℕ → Type 0
-Nets o len (Steps n) words = (u : Net) × (o ≡ ok u) × (n ≡ u.steps) × (words ≡ u.words ++ zeros (len - length u.words))
-Nets o len (Not n p) words = o ≡ refuse n p
+unfoldable pub Nets : Outcome Net → ℕ → Result ℕ Refusal → List ℕ → Type 0
+Nets o len (Ok n) words = (u : Net) × (o ≡ ok u) × (n ≡ u.steps) × (words ≡ u.words ++ zeros (len - length u.words))
+Nets o len (Err e) words = o ≡ refuse (number_of e.reason) e.place
 
 -- a resolved program lies on the tape, and its main is this block
 pub record MainHeld (t : List ℕ) (end main : ℕ) : Type 0 where
@@ -71,16 +68,6 @@ pub record MainReady (t places : List ℕ) (last : ℕ) (net : List ℕ) (f : Fr
   pub room : 5124 ≤ length net
 
 -- ---- the table of contents
-
-pub front : (t : List ℕ) (a b c d : ℕ) → 4 ≤ length t → set (set (set (set t 0 a) 1 b) 2 c) 3 d ≡ a ∷ b ∷ c ∷ d ∷ drop 4 t
-front [] a b c d h = absurd (omega arith)
-front (w ∷ []) a b c d h = absurd (omega arith)
-front (w ∷ x ∷ []) a b c d h = absurd (omega arith)
-front (w ∷ x ∷ y ∷ []) a b c d h = absurd (omega arith)
-front (w ∷ x ∷ y ∷ z ∷ t) a b c d h = refl
-
-pub front_long : (t : List ℕ) (a b c d : ℕ) → length (set (set (set (set t 0 a) 1 b) 2 c) 3 d) ≡ length t
-front_long t a b c d = length-set (set (set (set t 0 a) 1 b) 2 c) 3 d ∙ length-set (set (set t 0 a) 1 b) 2 c ∙ length-set (set t 0 a) 1 b ∙ length-set t 0 a
 
 laid-put : (ws t : List ℕ) (to : ℕ) → laid t to ws ≡ put t to ws
 unfolding laid put
@@ -140,10 +127,10 @@ module _ {len : ℕ} {P : Program} {t places : List ℕ} {last : ℕ} {net : Lis
     wires = b.wires;
   }
 
-  pub main-no : {n p : ℕ} {o : Out} (words : List ℕ) (marks : List Bool) → o ≡ No n p → Answers (unfolds nin (deep nin P 15) b.main.body (generics []) b.names (some-state w)) o words marks → (after : List ℕ)
-      → Nets (unfold_main P) (length net) (Not n p) after
+  pub main-no : {e : Refusal} {o : Result Counts Refusal} (words : List ℕ) (marks : List Bool) → o ≡ Err e → Answers (unfolds nin (deep nin P 15) b.main.body (generics []) b.names (some-state w)) o words marks → (after : List ℕ)
+      → Nets (unfold_main P) (length net) (Err e) after
   unfolding Answers Nets
-  main-no {n} {p} words marks e a after = body_refused P b.main b.is b.begun (refusal words marks e a)
+  main-no words marks q a after = body_refused P b.main b.is b.begun (refusal words marks q a)
 
   -- what the code has in hand once the body is unfolded
   pub record Unrolled (s : Counts) (words : List ℕ) : Type 0 where
@@ -156,7 +143,7 @@ module _ {len : ℕ} {P : Program} {t places : List ℕ} {last : ℕ} {net : Lis
     pub most : length state.gates ≤ 1024
     pub image : words ≡ image (length words) state.gates
 
-  pub unrolled : {s : Counts} {o : Out} (words : List ℕ) (marks : List Bool) → o ≡ Done s → Answers (unfolds nin (deep nin P 15) b.main.body (generics []) b.names (some-state w)) o words marks → Unrolled s words
+  pub unrolled : {s : Counts} {o : Result Counts Refusal} (words : List ℕ) (marks : List Bool) → o ≡ Ok s → Answers (unfolds nin (deep nin P 15) b.main.body (generics []) b.names (some-state w)) o words marks → Unrolled s words
   unfolding Answers net_words
   unrolled words marks e a =
       let (v, is, shows, few) = success (unfolds nin (deep nin P 15) b.main.body (generics []) b.names (some-state w)) words marks e a in
@@ -172,7 +159,7 @@ module _ {len : ℕ} {P : Program} {t places : List ℕ} {last : ℕ} {net : Lis
         image = shows.words;
       }
 
-  pub main-done : {s : Counts} (words net' : List ℕ) → length words ≡ length net → 5124 ≤ length net → Unrolled s words → net' ≡ nin ∷ nout ∷ s.wires ∷ s.gates ∷ drop 4 words → Nets (unfold_main P) (length net) (Steps s.steps) net'
+  pub main-done : {s : Counts} (words net' : List ℕ) → length words ≡ length net → 5124 ≤ length net → Unrolled s words → net' ≡ nin ∷ nout ∷ s.wires ∷ s.gates ∷ drop 4 words → Nets (unfold_main P) (length net) (Ok s.steps) net'
   unfolding Nets
   main-done {s} words net' l room u q =
       let v = u.state in (
@@ -209,15 +196,15 @@ module _ {len : ℕ} {P : Program} {t places : List ℕ} {end place : ℕ} {main
   pub main-written : WrittenBlock t place end
   main-written = record { block = m.block; here = main-here }
 
-  pub main-not : {n p : ℕ} (r : Begun) → r.start ≡ Refused n p → Begins m.block place r → (len₁ : ℕ) (words : List ℕ) → Nets (unfold_main P) len₁ (Not n p) words
-  unfolding BeginsAs Nets
-  main-not r e b len₁ words = main-refused P m.block m.is (subst (λ x. BeginsAs m.block place x r.inputs r.outputs r.wires r.frame) e b)
+  pub main-not : {e : Refusal} (r : Result Begun Refusal) → r ≡ Err e → Begins m.block place r → (len₁ : ℕ) (words : List ℕ) → Nets (unfold_main P) len₁ (Err e) words
+  unfolding Begins Nets
+  main-not r q b len₁ words = main-refused P m.block m.is (subst (Begins m.block place) q b)
 
-  pub main_body : {first after : ℕ} {net : List ℕ} (r : Begun) → r.start ≡ Entered first after → Begins m.block place r → net ≡ zeros (length net)
-      → Body len P t places end net r.frame r.inputs r.outputs r.wires first after
-  unfolding BeginsAs
-  main_body {first} {after} r e b blank =
-      let g = subst (λ x. BeginsAs m.block place x r.inputs r.outputs r.wires r.frame) e b in
+  pub main_body : {q : Begun} {net : List ℕ} (r : Result Begun Refusal) → r ≡ Ok q → Begins m.block place r → net ≡ zeros (length net)
+      → Body len P t places end net q.frame q.inputs q.outputs q.wires q.body.at q.body.end
+  unfolding Begins
+  main_body {q} r e b blank =
+      let g = subst (Begins m.block place) e b in
       record {
         shelf = s;
         main = m.block;
@@ -225,7 +212,7 @@ module _ {len : ℕ} {P : Program} {t places : List ℕ} {end place : ℕ} {main
         names = g.names;
         begun = g.is;
         stands = g.stands;
-        here = subst (λ z. HereStmts len t first z m.block.body) (sym g.last)
+        here = subst (λ z. HereStmts len t q.body.at z m.block.body) (sym g.last)
             (subst (λ a. HereStmts len t a (a + length (body_w m.block.body)) m.block.body) (sym (g.first ∙ ap (λ p. after_locals p m.block + 1) at)) m.body);
         scoped = m.scoped;
         ports = g.ports;

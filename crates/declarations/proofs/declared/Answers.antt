@@ -6,4 +6,4 @@ use Rattle.declarations.proofs.declared.Goals as goal
 
 pub returns-in_err-name-clause-tells : goal.returns-in_err-name-clause-tells
 unfolding declared_at
-returns-in_err-name-clause-tells c = tells_on (spelling c.args.text.now) _ _ c.from_residual.ensures.1 (stop _ _ _ c.in_err-name.ensures.tells)
+returns-in_err-name-clause-tells c = tells_on (spelling _) _ _ c.from_residual.ensures.1 (stop _ _ _ c.in_err-name.ensures.tells)

@@ -1,4 +1,3 @@
-use Rattle.std.proofs.Common.{refl, sym, ◌∙◌, []}
 use Rattle.declarations.specs.Kept.{from}
 use Rattle.declarations.specs.Rows.{generics-row}
 use Rattle.marks.specs.Laws.Exits.{gives_on}
@@ -8,6 +7,8 @@ use Rattle.rules.specs.Grammar.{generics as generics_at}
 use Rattle.rules.specs.Readers.{give}
 use Rattle.tape.specs.Encoding.{list_w, generic_w}
 use Rattle.tape.specs.Written.{nothing, as-words}
+use mathlib.Core.List.{[]}
+use mathlib.Core.Path.{refl, sym, ◌∙◌}
 use Rattle.declarations.proofs.generics.Goals as goal
 
 pub returns-in_default-clause-gives : goal.returns-in_default-clause-gives
@@ -16,10 +17,8 @@ returns-in_default-clause-gives c = record { value = []; reads = absent "(" _ _ 
 
 pub returns-in_err-first-clause-gives : goal.returns-in_err-first-clause-gives
 unfolding generics_at
-returns-in_err-first-clause-gives c =
-    gives_on (from 0) (list_w generic_w) _ _ _ _ _ c.from_residual.ensures.1 (there "(" _ _ _ _ c.in-Some.ensures.spots ∙ first_off (generics-row _) 0 _ c.in_err-first.ensures.gives)
+returns-in_err-first-clause-gives c = gives_on (from 0) (list_w generic_w) _ _ _ _ _ c.from_residual.ensures.1 (there "(" _ _ _ _ c.in-Some.ensures.spots ∙ first_off (generics-row _) 0 _ c.in_err-first.ensures.gives)
 
 pub returns-clause-gives : goal.returns-clause-gives
 unfolding generics_at
-returns-clause-gives c =
-    via _ _ _ _ _ c.more_generics.result (there "(" _ _ _ _ c.in-Some.ensures.spots) (first (generics-row _) 0 _ _ c.more_generics.result c.in_ok-first.ensures.gives c.more_generics.ensures.gives)
+returns-clause-gives c = via _ _ _ _ _ c.more_generics.result (there "(" _ _ _ _ c.in-Some.ensures.spots) (first (generics-row _) 0 _ _ c.more_generics.result c.in_ok-first.ensures.gives c.more_generics.ensures.gives)

@@ -1,13 +1,15 @@
-use Prim.Native.Nat.{◌+◌, ◌-◌, ◌*◌, ◌≤◌}
+use Prim.Native.Nat.{◌-◌}
 use Rattle.declarations.specs.Rows.{locals-row}
 use Rattle.marks.specs.Laws.Lists.{Listing}
+use Rattle.marks.specs.Room.{Spends}
+use Rattle.std.specs.Prelude.{Ok}
 use lib.ListN.{length}
 use mathlib.Core.Path.{◌≡◌}
 use Rattle.declarations.proofs.locals.Given as goal
 
 abbrev pub invariant-loop-next : goal.invariant-loop-next
 invariant-loop-next l =
-    Listing (locals-row l.text) l.initial.tape l.count l.at l.to l.tape l.read.names l.read.next l.read.end × (length l.tape ≡ length l.initial.tape) × (l.at ≤ l.read.next) × (l.read.next ≤ length l.text) × (l.to ≤ l.read.end) × (2 * l.read.end + l.at ≤ 2 * l.to + l.read.next)
+    Listing (locals-row l.text) l.initial.tape l.fn.before.names l.fn.before.next l.fn.before.end l.tape l.read.names l.read.next l.read.end × (length l.tape ≡ length l.initial.tape) × Spends 0 0 (length l.text) l.fn.before.next l.fn.before.end (Ok l.read)
 
 abbrev pub decreases-loop-next : goal.decreases-loop-next
 decreases-loop-next l = length l.text - l.read.next

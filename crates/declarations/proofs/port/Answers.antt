@@ -1,24 +1,21 @@
-use Rattle.std.proofs.Common.{◌∙◌, arith}
 use Rattle.declarations.specs.Parts.{port-gives}
 use Rattle.marks.specs.Laws.Exits.{gives_on}
 use Rattle.marks.specs.Laws.One.{on, stop, passed}
 use Rattle.rules.specs.Grammar.{port as port_at}
 use Rattle.tape.specs.Encoding.{decl_w}
-use Rattle.tape.specs.Kinds.{code}
 use Rattle.tape.specs.Layout.{name_w}
 use Rattle.tape.specs.Written.{none}
+use mathlib.Core.Path.{◌∙◌}
+use native.Mathlib.Omega.{arith}
 use Rattle.declarations.proofs.port.Goals as goal
 
 pub returns-in_err-name-clause-gives : goal.returns-in_err-name-clause-gives
 unfolding port_at
-returns-in_err-name-clause-gives c = gives_on none (decl_w name_w (code c.args.kind)) _ _ _ _ _ c.from_residual.ensures.1 (stop _ _ _ c.in_err-name.ensures.tells)
+returns-in_err-name-clause-gives c = gives_on none (decl_w name_w _) _ _ _ _ _ c.from_residual.ensures.1 (stop _ _ _ c.in_err-name.ensures.tells)
 
 pub returns-in_err-colon-clause-gives : goal.returns-in_err-colon-clause-gives
 unfolding port_at
-returns-in_err-colon-clause-gives c =
-    gives_on none (decl_w name_w (code c.args.kind)) _ _ _ _ _ c.from_residual-in_err-colon.ensures.1 (on _ _ _ c.in_ok-name.ensures.tells ∙ stop _ _ _ (passed ":" _ _ c.in_err-colon.ensures.tells))
+returns-in_err-colon-clause-gives c = gives_on none (decl_w name_w _) _ _ _ _ _ c.from_residual-in_err-colon.ensures.1 (on _ _ _ c.in_ok-name.ensures.tells ∙ stop _ _ _ (passed ":" _ _ c.in_err-colon.ensures.tells))
 
 pub returns-clause-gives : goal.returns-clause-gives
-returns-clause-gives c =
-    let o = c.in_ok-name.ensures in
-    port-gives _ _ _ _ _ _ o.tells (omega arith) (passed ":" _ _ c.in_ok-colon.ensures.tells) _ _ _ c.typed.result c.typed.ensures.gives
+returns-clause-gives c = port-gives _ _ _ _ _ _ c.in_ok-name.ensures.tells (omega (arith, c.in_ok-name.ensures.named)) (passed ":" _ _ c.in_ok-colon.ensures.tells) _ _ _ c.typed.result c.typed.ensures.gives

@@ -1,5 +1,4 @@
-use Rattle.std.proofs.Common.{sym, ◌∙◌, arith, []}
-use Rattle.std.proofs.Common.{◌+◌}
+use Prim.Native.Nat.{◌+◌}
 use Rattle.declarations.specs.Kept.{from}
 use Rattle.declarations.specs.Rows.{ports-row}
 use Rattle.marks.specs.Laws.Exits.{gives_on}
@@ -11,25 +10,23 @@ use Rattle.tape.specs.Encoding.{list_w, decl_w}
 use Rattle.tape.specs.Kinds.{code}
 use Rattle.tape.specs.Layout.{name_w}
 use Rattle.tape.specs.Written.{nothing, as-words}
+use mathlib.Core.List.{[]}
+use mathlib.Core.Path.{sym, ◌∙◌}
+use native.Mathlib.Omega.{arith}
 use Rattle.declarations.proofs.ports.Goals as goal
 
-pub returns-in_err-open-clause-gives : goal.returns-in_err-open-clause-gives
+pub returns-in_err-next-clause-gives : goal.returns-in_err-next-clause-gives
 unfolding ports_at
-returns-in_err-open-clause-gives c = gives_on (from c.args.count) (list_w (decl_w name_w (code c.args.kind))) _ _ _ _ _ c.from_residual.ensures.1 (stop _ _ _ (passed "[" _ _ c.in_err-open.ensures.tells))
+returns-in_err-next-clause-gives c = gives_on (from _) (list_w (decl_w name_w _)) _ _ _ _ _ c.from_residual.ensures.1 (stop _ _ _ (passed "[" _ _ c.in_err-next.ensures.tells))
 
 pub returns-in-Some-clause-gives : goal.returns-in-Some-clause-gives
 unfolding ports_at any give
-returns-in-Some-clause-gives c =
-    record { value = []; reads = on _ _ _ (passed "[" _ _ c.in_ok-open.ensures.tells) ∙ there "]" _ _ _ _ c.in-Some.ensures.spots; wrote = as-words (sym (list-empty _)) (nothing _ _); counts = omega arith }
+returns-in-Some-clause-gives c = record { value = []; reads = on _ _ _ (passed "[" _ _ c.in_ok-next.ensures.tells) ∙ there "]" _ _ _ _ c.in-Some.ensures.spots; wrote = as-words (sym (list-empty _)) (nothing _ _); counts = omega arith }
 
 pub returns-in_err-first-clause-gives : goal.returns-in_err-first-clause-gives
 unfolding ports_at any
-returns-in_err-first-clause-gives c =
-    gives_on (from c.args.count) (list_w (decl_w name_w (code c.args.kind))) _ _ _ _ _ c.from_residual-in_err-first.ensures.1
-    (on _ _ _ (passed "[" _ _ c.in_ok-open.ensures.tells) ∙ absent "]" _ _ _ _ c.in_default.ensures.spots ∙ first_off (ports-row _ (code c.args.kind)) _ _ c.in_err-first.ensures.gives)
+returns-in_err-first-clause-gives c = gives_on (from _) (list_w (decl_w name_w _)) _ _ _ _ _ c.from_residual-in_err-first.ensures.1 (on _ _ _ (passed "[" _ _ c.in_ok-next.ensures.tells) ∙ absent "]" _ _ _ _ c.in_default.ensures.spots ∙ first_off (ports-row _ (code c.args.kind)) _ _ c.in_err-first.ensures.gives)
 
 pub returns-clause-gives : goal.returns-clause-gives
 unfolding ports_at any
-returns-clause-gives c =
-    via _ _ _ _ _ c.more_ports.result (on _ _ _ (passed "[" _ _ c.in_ok-open.ensures.tells) ∙ absent "]" _ _ _ _ c.in_default.ensures.spots)
-    (first_of (ports-row _ _) _ _ _ c.more_ports.result c.in_ok-first.ensures.gives (c.args.count + 1) (omega arith) c.more_ports.ensures.gives)
+returns-clause-gives c = via _ _ _ _ _ c.more_ports.result (on _ _ _ (passed "[" _ _ c.in_ok-next.ensures.tells) ∙ absent "]" _ _ _ _ c.in_default.ensures.spots) (first_of (ports-row _ _) _ _ _ c.more_ports.result c.in_ok-first.ensures.gives (c.args.before.names + 1) (omega arith) c.more_ports.ensures.gives)

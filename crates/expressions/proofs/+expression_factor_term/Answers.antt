@@ -1,15 +1,15 @@
-use Rattle.std.proofs.Common.{sym, ◌∙◌, arith}
+use Rattle.std.proofs.Common.{rules, ◌-◌, sym, ◌∙◌, arith}
 use Rattle.expressions.specs.Factors.{at-bad, at_other, minus-over, open-over, negated, inside-off, grouped, named, numbered, paired}
 use Rattle.marks.specs.Laws.Chains.{start, ends, off, go_on}
 use Rattle.marks.specs.Laws.Exits.{gives_on}
 use Rattle.marks.specs.Laws.One.{past}
-use Rattle.rules.specs.Grammar.{chain}
+use Rattle.rules.specs.Grammar.{chain, factor}
 use Rattle.rules.proofs.Laws.Enough.{enough}
 use Rattle.rules.specs.Outcome.{◌>>=◌ as ◌and-then◌}
 use Rattle.rules.specs.Readers.{◌>>=◌}
 use Rattle.tape.specs.Encoding.{exp_w}
-use Rattle.tape.specs.Layout.{name_w}
-use Rattle.tape.specs.Written.{none}
+use Rattle.tape.specs.Layout.{flip, name_w}
+use Rattle.tape.specs.Written.{Gives, none}
 use Rattle.expressions.proofs.+expression_factor_term.Goals as goal
 
 pub expression-returns-in_err-read-clause-gives : goal.expression-returns-in_err-read-clause-gives
@@ -41,7 +41,9 @@ factor-returns-then-left-eq0-clause-gives t c = minus-over _ _ _ (sym c.in-Mark.
 
 pub factor-returns-then-b-code-clause-gives : goal.factor-returns-then-b-code-clause-gives
 factor-returns-then-b-code-clause-gives t c =
-    negated _ _ _ (sym c.in-Mark.ensures.value) _ _ _ _ c.factor.result (c.if-b-code.true ∙ c.code.ensures) c.if-left-eq0.false (rw (← c.flipped.ensures.0) c.factor.ensures.gives)
+    let h = rw c.flipped.ensures.0 at c.factor.ensures.gives in
+    let g : Gives none (exp_w name_w (flip c.args.head)) (factor c.args.text.now (c.args.left - 1) c.in-Mark.next) c.args.tape.now c.args.to c.factor.new.tape c.factor.result = search rules in
+    negated _ _ _ (sym c.in-Mark.ensures.value) _ _ _ _ c.factor.result (c.if-b-code.true ∙ c.code.ensures) c.if-left-eq0.false g
 
 pub factor-returns-then-left-eq0-2-clause-gives : goal.factor-returns-then-left-eq0-2-clause-gives
 factor-returns-then-left-eq0-2-clause-gives t c =

@@ -1,9 +1,10 @@
-use Rattle.std.proofs.Common.{refl, arith}
-use Rattle.grammar.specs.Parts.{generics-off, inputs-off, outputs-off, locals-off, titled}
+use Rattle.grammar.specs.Parts.{generics-off, inputs-off, outputs-off, titled}
 use Rattle.grammar.specs.Titles.{titles_on}
 use Rattle.marks.specs.Laws.One.{stop}
 use Rattle.rules.specs.Grammar.{a_block}
 use Rattle.rules.specs.Text.{pick}
+use mathlib.Core.Path.{refl}
+use native.Mathlib.Omega.{arith}
 use Rattle.grammar.proofs.title.Goals as goal
 
 pub returns-in_err-name-clause-titles : goal.returns-in_err-name-clause-titles
@@ -19,10 +20,5 @@ returns-in_err-inputs-clause-titles c = titles_on _ _ _ _ _ _ _ c.from_residual-
 pub returns-in_err-outputs-clause-titles : goal.returns-in_err-outputs-clause-titles
 returns-in_err-outputs-clause-titles c = titles_on _ _ _ _ _ _ _ c.from_residual-in_err-outputs.ensures.1 (outputs-off _ _ _ _ c.in_ok-name.ensures.tells c.in_ok-generics.ensures.gives c.in_ok-inputs.ensures.gives c.in_err-outputs.ensures.gives)
 
-pub returns-in_err-locals-clause-titles : goal.returns-in_err-locals-clause-titles
-returns-in_err-locals-clause-titles c = titles_on _ _ _ _ _ _ _ c.from_residual-in_err-locals.ensures.1 (locals-off _ _ _ _ c.in_ok-name.ensures.tells c.in_ok-generics.ensures.gives c.in_ok-inputs.ensures.gives c.in_ok-outputs.ensures.gives c.in_err-locals.ensures.gives)
-
 pub returns-clause-titles : goal.returns-clause-titles
-returns-clause-titles c =
-    let o = c.in_ok-name.ensures in
-    titled _ _ _ _ c.in_ok-name.ensures.tells c.in_ok-generics.ensures.gives c.in_ok-inputs.ensures.gives c.in_ok-outputs.ensures.gives (omega arith) c.in_ok-locals.ensures.gives _ _ c.store_name.ensures refl
+returns-clause-titles c = titled _ _ _ _ c.in_ok-name.ensures.tells c.in_ok-generics.ensures.gives c.in_ok-inputs.ensures.gives c.in_ok-outputs.ensures.gives (omega (arith, c.in_ok-name.ensures.named)) _ _ c.store_name.ensures refl _ c.locals.result c.locals.ensures.gives

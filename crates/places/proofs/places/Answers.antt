@@ -1,47 +1,33 @@
-use Rattle.std.specs.Prelude.{ℕ, ◌≤◌, ◌<◌, length}
-use mathlib.Core.Path.{refl}
-use native.Mathlib.Omega.{arith}
-use mathlib.Core.List.{List}
-use Rattle.rules.specs.Syntax.{Program}
-use Rattle.places.specs.Starts.{shelf, Finding, finding-begin, finding-next, finding-place, finding-on, finding-end}
-use borrow.Author.Rules.{rules}
+use Rattle.std.proofs.Common.{refl, arith}
+use Rattle.places.specs.Starts.{shelf, finding-begin, finding-next, finding-on, finding-end, finding-full}
 use Rattle.places.proofs.places.Goals as goal
 
--- there is a place for another block
-at_place : {s t : List ℕ} {end : ℕ} {P : Program} {l₀ l : List ℕ} {i k : ℕ} → Finding s t end P l₀ l i k → length P.blocks ≤ 64 → i < end → k < 64
-at_place f m h = omega (arith, finding-place f (finding-next f h), m)
+pub loop-k-init : goal.loop-k-init
+loop-k-init c s P h = finding-begin _ h
 
-pub loop-i-init : goal.loop-i-init
-loop-i-init c s P h = finding-begin _ h
+pub returns-then-at-end-clause-by_index : goal.returns-then-at-end-clause-by_index
+returns-then-at-end-clause-by_index c s P h = finding-end (c.loop-k.invariant s P h) (omega (arith, c.if-at-end.true))
 
-pub offset_bounds-into-k : goal.offset_bounds-into-k
-offset_bounds-into-k c = let p = c.requires.0 in let h = at_place (c.loop-i.invariant p.text p.program p.held) p.held.many c.loop-i-test.true in search rules
+pub returns-then-at-end-clause-by_index_2 : goal.returns-then-at-end-clause-by_index_2
+returns-then-at-end-clause-by_index_2 c s P h = shelf _ _ P c.requires.1 (finding-end (c.loop-k.invariant s P h) (omega (arith, c.if-at-end.true))) h
 
-pub bounds-into-k : goal.bounds-into-k
-bounds-into-k c = let p = c.requires.0 in let h = at_place (c.loop-i.invariant p.text p.program p.held) p.held.many c.loop-i-test.true in omega (arith, h)
-
-pub after_block-i-requires : goal.after_block-i-requires
-after_block-i-requires c =
+pub after_block-at-requires : goal.after_block-at-requires
+after_block-at-requires c =
     let p = c.requires.0 in
-    let f = c.loop-i.invariant p.text p.program p.held in
-    let a = finding-next f c.loop-i-test.true in
+    let f = c.loop-k.invariant p.text p.program p.held in
+    let a = finding-next f (omega (arith, c.if-at-end.false)) in
     record { block = a.block; here = a.here }
 
-pub overflow_add-k : goal.overflow_add-k
-overflow_add-k c = let p = c.requires.0 in let h = at_place (c.loop-i.invariant p.text p.program p.held) p.held.many c.loop-i-test.true in search rules
+pub loop-k-preserved : goal.loop-k-preserved
+loop-k-preserved c s P h =
+    let f = c.loop-k.invariant s P h in
+    let a = finding-next f (omega (arith, c.if-at-end.false)) in
+    finding-on f a (c.after_block-at.ensures a.block a.here) refl
 
-pub loop-i-smaller : goal.loop-i-smaller
-loop-i-smaller c =
-    let p = c.requires.0 in
-    let f = c.loop-i.invariant p.text p.program p.held in
-    let a = finding-next f c.loop-i-test.true in
-    omega (arith, c.after_block-i.ensures a.block a.here, a.some, c.loop-i-test.true)
+pub returns-clause-by_index : goal.returns-clause-by_index
+returns-clause-by_index c s P h = let f = c.loop-k.invariant s P h in finding-end f (finding-full f (omega (arith, h.many, c.loop-k-test.false)))
 
-pub loop-i-preserved : goal.loop-i-preserved
-loop-i-preserved c s P h =
-    let f = c.loop-i.invariant s P h in
-    let a = finding-next f c.loop-i-test.true in
-    finding-on f a (c.after_block-i.ensures a.block a.here) refl
-
-pub returns : goal.returns
-returns c = record { by_index = (λ s P h. finding-end (c.loop-i.invariant s P h) c.loop-i-test.false); by_index_2 = λ s P h. shelf _ _ P c.requires.1 (finding-end (c.loop-i.invariant s P h) c.loop-i-test.false) h }
+pub returns-clause-by_index_2 : goal.returns-clause-by_index_2
+returns-clause-by_index_2 c s P h =
+    let f = c.loop-k.invariant s P h in
+    shelf _ _ P c.requires.1 (finding-end f (finding-full f (omega (arith, h.many, c.loop-k-test.false)))) h

@@ -3,7 +3,7 @@ use Rattle.marks.specs.Laws.Exits.{gives_on}
 use Rattle.marks.specs.Laws.Lists.{begun, wrong, last, item-off, on, first, first_off, via}
 use Rattle.marks.specs.Laws.One.{past, there, absent}
 use Rattle.rules.specs.Readers.{any, give}
-use Rattle.statements.specs.Loops.{at-bad, at-number, at_name, at_other, loop-over, head-off, body-off, looped}
+use Rattle.statements.specs.Loops.{at-bad, at-number, at_name, loop-over, head-off, body-off, looped}
 use Rattle.statements.specs.Rows.{statements-row, end_empty}
 use Rattle.tape.specs.Encoding.{stmts_w, callee_w}
 use Rattle.tape.specs.Layout.{name_w}
@@ -32,9 +32,6 @@ more_statements-loop-next-preserved t c =
     let u = c.in_ok-read-in-Another.ensures in
     let p = rw c.in-Another.is at c.in_ok-next.ensures.parted in
     ((suc i.0.0, on (statements-row _ _) i.0.1 i.3 (rw c.in-Another.is at c.in_ok-next.ensures.value) u.gives), c.statement.auto.tape ∙ i.1, omega arith, omega arith, omega arith, omega arith, u.gives.counts)
-
-pub statement-returns-then-b-code-clause-gives : goal.statement-returns-then-b-code-clause-gives
-statement-returns-then-b-code-clause-gives t c = at_other _ _ _ (sym c.in-Mark.ensures.value) (rw c.code.ensures at c.if-b-code.true) ∙ rw c.unwanted-then-b-code.ensures
 
 pub statement-returns-then-left-eq0-clause-gives : goal.statement-returns-then-left-eq0-clause-gives
 statement-returns-then-left-eq0-clause-gives t c = loop-over _ _ _ (sym c.in-Mark.ensures.value) (c.if-b-code.false ∙ c.code.ensures) c.if-left-eq0.true

@@ -1,11 +1,11 @@
-use Rattle.std.proofs.Common.{arith}
+use Rattle.std.proofs.Common.{arith, rules, ◌≡◌, set}
 use Rattle.marks.specs.Laws.Exits.{gives_on}
 use Rattle.marks.specs.Laws.One.{stop, passed}
 use Rattle.rules.specs.Grammar.{argument as argument_at}
 use Rattle.statements.specs.Loops.{whole-got, part_off, close-off, part-got}
 use Rattle.tape.specs.Encoding.{arg_w}
 use Rattle.tape.specs.Kinds.{code}
-use Rattle.tape.specs.Layout.{name_w}
+use Rattle.tape.specs.Layout.{pack, spelt, name_w}
 use Rattle.tape.specs.Written.{none}
 use Rattle.statements.proofs.argument.Goals as goal
 
@@ -32,4 +32,6 @@ returns-in_err-close-clause-gives c =
 pub returns-clause-gives : goal.returns-clause-gives
 returns-clause-gives c =
     let o = c.in_ok-name.ensures in
-    part-got _ _ _ _ _ o.tells (omega arith) c.in-Some.ensures.spots c.store_name-2.ensures c.in_ok-subscript.ensures.gives (passed ")" _ _ c.in_ok-close.ensures.tells)
+    let name = c.in_ok-name.name in
+    let w : c.store_name-2.new.tape ≡ set c.args.tape.now c.args.to (pack (code c.args.kind) 1 (spelt name.place name.next)) = search rules in
+    part-got _ _ _ _ _ o.tells (omega arith) c.in-Some.ensures.spots w c.in_ok-subscript.ensures.gives (passed ")" _ _ c.in_ok-close.ensures.tells)

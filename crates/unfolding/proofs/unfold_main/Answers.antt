@@ -1,45 +1,32 @@
-use mathlib.Core.Path.{refl}
-use native.Mathlib.Omega.{arith}
+use Rattle.std.proofs.Common.{◌≡◌, refl, arith, rules, Err}
 use Rattle.unfolding.specs.Nets.{main-of, main-written, main-here, main-not, main_body}
-use borrow.Author.Rules.{rules}
 use Rattle.unfolding.proofs.unfold_main.Goals as goal
 
 pub places-requires : goal.places-requires
 places-requires c = let p = c.requires.0 in (record { text = p.text; program = p.program; held = p.held }, search rules)
 
-pub place_of-requires : goal.place_of-requires
-place_of-requires c = let p = c.requires.0 in omega (arith, p.is, p.held.scoped.main, p.held.many)
-
-pub begin-begun-requires : goal.begin-begun-requires
-begin-begun-requires c =
+pub begin-requires : goal.begin-requires
+begin-requires c =
     let p = c.requires.0 in
     let s = c.places.ensures.by_index_2 _ _ p.held in
-    main-written s (main-of s) p.is c.place_of.ensures
+    main-written s (main-of s) p.is refl
 
-pub unfold_body-requires : goal.unfold_body-requires
-unfold_body-requires c =
+pub returns-in_err-begun-clause-by_index : goal.returns-in_err-begun-clause-by_index
+returns-in_err-begun-clause-by_index c t P h is =
+    let s = c.places.ensures.by_index_2 _ _ h in
+    let m = main-of s in
+    let q : c.from_residual.result ≡ Err c.in_err-begun.field-0.0 = grind arith in
+    rw q (main-not s m is refl _ c.in_err-begun.was (c.begin.ensures _ (main-here s m is refl)) _ _)
+
+pub unfold_body-requires-clause-ready : goal.unfold_body-requires-clause-ready
+unfold_body-requires-clause-ready c =
     let p = c.requires.0 in
     let s = c.places.ensures.by_index_2 _ _ p.held in
     let m = main-of s in
-    record { text = _; program = _; body = main_body s m p.is c.place_of.ensures _ c.in-Body.is (c.begin-begun.ensures _ (main-here s m p.is c.place_of.ensures)) c.requires.1; room = c.requires.2 }
+    record { text = _; program = _; body = main_body s m p.is refl _ c.in_ok-begun.was (c.begin.ensures _ (main-here s m p.is refl)) c.requires.1; room = c.requires.2 }
 
-pub returns-in-No : goal.returns-in-No
-returns-in-No c = record {
-  by_index = (λ t P h is.
-      let s = c.places.ensures.by_index_2 _ _ h in
-      let m = main-of s in
-      main-not s m is c.place_of.ensures _ c.in-No.is (c.begin-begun.ensures _ (main-here s m is c.place_of.ensures)) _ _);
-  net_len_unchanged = refl;
-}
-
-pub shape_of-net : goal.shape_of-net
-shape_of-net c = c.unfold_body.ensures.net_len_unchanged
-
-pub returns-in-Body : goal.returns-in-Body
-returns-in-Body c = record {
-  by_index = (λ t P h is.
-      let s = c.places.ensures.by_index_2 _ _ h in
-      let m = main-of s in
-      c.unfold_body.ensures.by_index _ P (main_body s m is c.place_of.ensures _ c.in-Body.is (c.begin-begun.ensures _ (main-here s m is c.place_of.ensures)) c.requires.1));
-  net_len_unchanged = c.unfold_body.ensures.net_len_unchanged;
-}
+pub returns-clause-by_index : goal.returns-clause-by_index
+returns-clause-by_index c t P h is =
+    let s = c.places.ensures.by_index_2 _ _ h in
+    let m = main-of s in
+    c.unfold_body.ensures.by_index _ P (main_body s m is refl _ c.in_ok-begun.was (c.begin.ensures _ (main-here s m is refl)) c.requires.1)
