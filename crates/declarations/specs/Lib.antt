@@ -1,3 +1,4 @@
 pub mod Kept
 pub mod Rows
 pub mod Parts
+pub mod Items

@@ -4,7 +4,7 @@ use Rattle.std.proofs.Math.Path.{refl}
 use Rattle.std.proofs.Common.{◌∙◌, lt-ltb, le-ltb}
 use Rattle.std.proofs.lemmas.Result.{err_from_is_err_and}
 use Rattle.rules.specs.Text.{pick}
-use Rattle.rules.specs.Outcome.{Out, ok, refuse}
+use Rattle.rules.specs.Outcome.{ok, refuse}
 use Rattle.rules.specs.Words.{word_at}
 use Rattle.rules.specs.Syntax.{wire, vector, num}
 use Rattle.rules.specs.Readers.{give, spelling, after, mark, a_name, if_next}
@@ -108,9 +108,6 @@ port-any s k p q at = refl
 pub local-any : (s : List ℕ) (k p q at : ℕ) → local s k p at ≡ local s k q at
 unfolding local
 local-any s k p q at = refl
-
-pub placed : {A : Type 0} {size : A → ℕ} {words : A → List ℕ} {o x : Out (A × ℕ)} {t : List ℕ} {to : ℕ} {u : List ℕ} {n m c : ℕ} → x ≡ o → Got size words o t to u n m c → Got size words x t to u n m c
-placed e g = record { value = g.value; reads = e ∙ g.reads; wrote = g.wrote; counts = g.counts }
 
 module _ (s : List ℕ) (k i at p q : ℕ) (n : declared s i at ≡ ok (spelling s p q, q)) (l : q ≤ length s) {x a : ℕ} (c : mark s ":" q ≡ ok (x, a)) where
   pub port-gives : (t : List ℕ) (to : ℕ) (u : List ℕ) (r : Result Read Refusal) → Gives none (sort_w name_w k (spelt p q)) (a_type s a) t to u r → Gives none (decl_w name_w k) (port s i 0 at) t to u r

@@ -1,21 +1,83 @@
 // What a block declares: generics, ports and VARs, onto the tape.
 #![tactic(auto)]
 
-ghost use Rattle.std.specs.Prelude.{◌≡◌, List, [], ◌∷◌, ℕ, ◌+◌, ◌≤◌, ◌<◌, length, IfOk};
+ghost use Rattle.std.specs.Prelude.{[], ◌∷◌, ℕ, ◌+◌, ◌<◌, length, IfOk};
 ghost use Rattle.rules.specs.Syntax.{num};
 ghost use Rattle.rules.specs.Readers.{spelling, if_next, give, rest};
-ghost use Rattle.rules.specs.Grammar.{declared as declared_at, vectored, a_type, port as port_at, local as local_at, generics as generics_at, ports as ports_at};
+ghost use Rattle.rules.specs.Grammar.{declared as declared_at, a_type, port as port_at, local as local_at, generics as generics_at, ports as ports_at};
 ghost use Rattle.tape.specs.Layout.{name_w, VAR, spelt};
 ghost use Rattle.tape.specs.Kinds.{code};
 ghost use Rattle.tape.specs.Encoding.{list_w, sort_w, decl_w, generic_w};
 ghost use Rattle.tape.specs.Written.{Gives, none};
 ghost use Rattle.marks.specs.Marks.{Tells};
-ghost use Rattle.marks.specs.Room.{Room, Spends, Named};
+ghost use Rattle.marks.specs.Keys.{code as code_of};
+ghost use Rattle.marks.specs.declared.Key.{Key};
+ghost use Rattle.marks.specs.Room.{Room, Spends, Named, wide};
+ghost use Rattle.declarations.specs.Items.{Reading, Listed, ListLaws, Reads, Lists, laws_of, comma-seen, var-seen};
+ghost use Rattle.declarations.specs.Rows.{generics-row, ports-row, locals-row};
+ghost use Rattle.marks.specs.declared.Key.TheVariants.{Var, Begin, Close, Comma, Right};
 ghost use Rattle.declarations.specs.Kept.{Below, Vectors, Fits, from};
 
 use marks::{Divided, Key, Spot};
 use rules::{Reason, Refusal};
 use tape::{Kind, Read};
+
+// An item of a list: what it is to the grammar, its marks, and its reader.
+pub trait Item: Copy {
+    ghost reads: { Self → Reading };
+
+    ghost lists: { Self → Listed };
+
+    // The bytes of text that the rest of a list leaves room for.
+    ghost room: { ℕ };
+
+    ghost SEPARATOR: { Key };
+
+    ghost CLOSE: { Key };
+
+    const SEPARATOR: Key;
+
+    const CLOSE: Key;
+
+    // Reads an item, after the mark at `place`.
+    fn read(
+        self,
+        text: &[u8],
+        tape: &mut [u32],
+        before: Read,
+        place: usize,
+    ) -> Result<Read, Refusal>
+        requires { Room (room + wide (code_of SEPARATOR)) text.now tape.old before.next before.end }
+        ensures gives { reads self text.now tape.old before place tape.new result }
+        ensures spends { Spends (wide (code_of SEPARATOR)) 0 (length text.now) before.next before.end result }
+        ensures below { Below 64 before.names result };
+
+    // The mark that divides is not the end of the text.
+    ghost seen: { 0 < wide (code_of SEPARATOR) };
+
+    ghost laws: { (x : Self) → ListLaws (code_of SEPARATOR) (code_of CLOSE) (reads x) (lists x) };
+}
+
+// What stands after an item of a list: more of them, and the mark that closes.
+pub fn more<I: Item>(text: &[u8], tape: &mut [u32], before: Read, item: I) -> Result<Read, Refusal>
+    requires { Room I.room text.now tape.old before.next before.end }
+    ensures lists { I.lists item text.now tape.old before tape.new result }
+    ensures spends { Spends 0 (wide (code_of I.CLOSE)) (length text.now) before.next before.end result }
+{
+    let mut read = before;
+    loop {
+        match marks::separator(text, read.next, I::SEPARATOR, I::CLOSE)? {
+            Divided::Last(next) => return Ok(Read { next, ..read }),
+            Divided::Another(Spot { next, place }) => {
+                let one = item.read(text, tape, Read { next, ..read }, place)?;
+                read = Read {
+                    names: read.names + 1,
+                    ..one
+                };
+            }
+        }
+    }
+}
 
 // A name that is declared, where `count` stand before it in its block.
 #[tactic(auto, using(crate::specs::Parts::allowed, crate::specs::Parts::over))]
@@ -50,24 +112,37 @@ fn generic(text: &[u8], tape: &mut [u32], before: Read) -> Result<Read, Refusal>
     })
 }
 
-// What stands after a generic: more of them, and the closing bracket.
-fn more_generics(text: &[u8], tape: &mut [u32], before: Read) -> Result<Read, Refusal>
-    requires { Room 0 text.now tape.old before.next before.end }
-    ensures gives { Gives (from before.names) (list_w generic_w) (rest text.now [] ◌∷◌ (λ k _. declared_at text.now k) "," ")" before.names before.next) tape.old before.end tape.new result }
-    ensures spends { Spends 0 1 (length text.now) before.next before.end result }
-{
-    let mut read = before;
-    loop {
-        match marks::separator(text, read.next, Key::Comma, Key::Close)? {
-            Divided::Last(next) => return Ok(Read { next, ..read }),
-            Divided::Another(Spot { next, .. }) => {
-                let item = generic(text, tape, Read { next, ..read })?;
-                read = Read {
-                    names: read.names + 1,
-                    ..item
-                };
-            }
-        }
+// A generic, as an item of a list.
+#[derive(Clone, Copy)]
+struct OneGeneric;
+
+impl Item for OneGeneric {
+    ghost reads = { λ _. Reads (generic_w) (λ s k _. declared_at s k) };
+
+    ghost lists = { λ _. Lists (generic_w) (λ s k _. declared_at s k) "," ")" };
+
+    ghost room = { 0 };
+
+    ghost SEPARATOR = { Comma };
+
+    ghost CLOSE = { Close };
+
+    ghost seen = { comma-seen };
+
+    ghost laws = { λ _. laws_of _ _ _ _ generics-row };
+
+    const SEPARATOR: Key = Key::Comma;
+
+    const CLOSE: Key = Key::Close;
+
+    fn read(
+        self,
+        text: &[u8],
+        tape: &mut [u32],
+        before: Read,
+        _place: usize,
+    ) -> Result<Read, Refusal> {
+        generic(text, tape, before)
     }
 }
 
@@ -86,7 +161,7 @@ pub fn generics(text: &[u8], tape: &mut [u32], at: usize, to: usize) -> Result<R
         return Ok(start);
     };
     let first = generic(text, tape, Read { next, ..start })?;
-    more_generics(text, tape, Read { names: 1, ..first })
+    more(text, tape, Read { names: 1, ..first }, OneGeneric)
 }
 
 // (a..b) OF WIRE, after VECTOR.
@@ -144,24 +219,39 @@ fn port(text: &[u8], tape: &mut [u32], before: Read, kind: Kind) -> Result<Read,
     typed(text, tape, colon.next, before.end, kind, name)
 }
 
-// What stands after a port: more of them, and the closing bracket.
-fn more_ports(text: &[u8], tape: &mut [u32], before: Read, kind: Kind) -> Result<Read, Refusal>
-    requires { Room 7 text.now tape.old before.next before.end }
-    ensures gives { Gives (from before.names) (list_w (decl_w name_w (code kind))) (rest text.now [] ◌∷◌ (port_at text.now) "," "]" before.names before.next) tape.old before.end tape.new result }
-    ensures spends { Spends 0 1 (length text.now) before.next before.end result }
-{
-    let mut read = before;
-    loop {
-        match marks::separator(text, read.next, Key::Comma, Key::Right)? {
-            Divided::Last(next) => return Ok(Read { next, ..read }),
-            Divided::Another(Spot { next, .. }) => {
-                let item = port(text, tape, Read { next, ..read }, kind)?;
-                read = Read {
-                    names: read.names + 1,
-                    ..item
-                };
-            }
-        }
+// A port of this kind, as an item of a list.
+#[derive(Clone, Copy)]
+struct OnePort {
+    kind: Kind,
+}
+
+impl Item for OnePort {
+    ghost reads = { λ p. Reads (decl_w name_w (code p.kind)) port_at };
+
+    ghost lists = { λ p. Lists (decl_w name_w (code p.kind)) port_at "," "]" };
+
+    ghost room = { 7 };
+
+    ghost SEPARATOR = { Comma };
+
+    ghost CLOSE = { Right };
+
+    ghost seen = { comma-seen };
+
+    ghost laws = { λ p. laws_of _ _ _ _ (λ s. ports-row s (code p.kind)) };
+
+    const SEPARATOR: Key = Key::Comma;
+
+    const CLOSE: Key = Key::Right;
+
+    fn read(
+        self,
+        text: &[u8],
+        tape: &mut [u32],
+        before: Read,
+        _place: usize,
+    ) -> Result<Read, Refusal> {
+        port(text, tape, before, self.kind)
     }
 }
 
@@ -183,7 +273,7 @@ pub fn ports(text: &[u8], tape: &mut [u32], before: Read, kind: Kind) -> Result<
         names: before.names + 1,
         ..first
     };
-    more_ports(text, tape, read, kind)
+    more(text, tape, read, OnePort { kind })
 }
 
 // The type of a declaration, of this name: NUM, or as of a port.
@@ -220,23 +310,45 @@ fn local(text: &[u8], tape: &mut [u32], before: Read) -> Result<Read, Refusal>
     })
 }
 
+// A declaration, as an item of a list.
+#[derive(Clone, Copy)]
+struct OneLocal;
+
+impl Item for OneLocal {
+    ghost reads = { λ _. Reads (decl_w name_w VAR) local_at };
+
+    ghost lists = { λ _. Lists (decl_w name_w VAR) local_at "VAR" "BEGIN" };
+
+    ghost room = { 5 };
+
+    ghost SEPARATOR = { Var };
+
+    ghost CLOSE = { Begin };
+
+    ghost seen = { var-seen };
+
+    ghost laws = { λ _. laws_of _ _ _ _ locals-row };
+
+    const SEPARATOR: Key = Key::Var;
+
+    const CLOSE: Key = Key::Begin;
+
+    fn read(
+        self,
+        text: &[u8],
+        tape: &mut [u32],
+        before: Read,
+        _place: usize,
+    ) -> Result<Read, Refusal> {
+        local(text, tape, before)
+    }
+}
+
 // Declarations, and BEGIN.
 pub fn locals(text: &[u8], tape: &mut [u32], before: Read) -> Result<Read, Refusal>
     requires { Room 5 text.now tape.old before.next before.end }
     ensures gives { Gives (from before.names) (list_w (decl_w name_w VAR)) (rest text.now [] ◌∷◌ (local_at text.now) "VAR" "BEGIN" before.names before.next) tape.old before.end tape.new result }
     ensures spends { Spends 0 5 (length text.now) before.next before.end result }
 {
-    let mut read = before;
-    loop {
-        match marks::separator(text, read.next, Key::Var, Key::Begin)? {
-            Divided::Last(next) => return Ok(Read { next, ..read }),
-            Divided::Another(Spot { next, .. }) => {
-                let item = local(text, tape, Read { next, ..read })?;
-                read = Read {
-                    names: read.names + 1,
-                    ..item
-                };
-            }
-        }
-    }
+    more(text, tape, before, OneLocal)
 }

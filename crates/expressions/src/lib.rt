@@ -1,5 +1,7 @@
 // Expressions: their factors as words on the tape. Expression, term and factor call each other; the remaining level allowance falls at
 // every bracket and minus.
+// Readers take the text, the tape and two places apart: of the places mostly one moves alone, and a struct that holds the tape would put its
+// ghost name into every clause.
 #![tactic(auto)]
 
 ghost use Rattle.std.specs.Prelude.{◌≡◌, ◌+◌, ◌≤◌, ◌<◌, Bool, length};
@@ -122,8 +124,7 @@ fn term(
     Ok(read)
 }
 
-// An expression: terms joined by + or -. It and a term are one loop over another item, but a function that takes the item cannot stand in
-// the cycle that an expression and its factors make.
+// An expression: terms joined by + or -. Its loop and a term's are two, as no function that is given its item can stand in their cycle.
 #[cycle(expression_factor_term)]
 fn expression(
     text: &[u8],

@@ -1,18 +1,21 @@
 // Blocks and whole texts, onto the tape: one pass over the text from its front.
 #![tactic(auto)]
 
-ghost use Rattle.std.specs.Prelude.{◌≡◌, List, [], ◌∷◌, ℕ, ◌+◌, ◌≤◌, ◌<◌, length};
-ghost use Rattle.rules.specs.Readers.{rest};
+ghost use Rattle.std.specs.Prelude.{◌+◌, ◌<◌, length};
 ghost use Rattle.rules.specs.Grammar.{a_block, blocks as blocks_at};
 ghost use Rattle.tape.specs.Layout.{name_w};
 ghost use Rattle.tape.specs.Encoding.{list_w, block_w, callee_w};
 ghost use Rattle.tape.specs.Written.{Gives, none};
 ghost use Rattle.marks.specs.Room.{Room, Spends};
+ghost use Rattle.marks.specs.declared.Key.TheVariants.{Nothing, Block};
 ghost use Rattle.declarations.specs.Kept.{Below, from};
+ghost use Rattle.declarations.specs.Items.{block-seen, Reads as ItemReads, Lists, laws_of};
+ghost use Rattle.grammar.specs.Rows.{blocks-row};
 ghost use Rattle.grammar.specs.Titles.{Titles};
 ghost use Rattle.grammar.specs.Promise.{Reads, Tries};
 
-use marks::{Divided, Key, Spot};
+use declarations::Item;
+use marks::{Key, Spot};
 use rules::{Reason, Refusal};
 use tape::{Kind, Read};
 
@@ -54,24 +57,37 @@ fn block(text: &[u8], tape: &mut [u32], before: Read, place: usize) -> Result<Re
     })
 }
 
-// What stands after a block: more of them, and the end of the text.
-fn more_blocks(text: &[u8], tape: &mut [u32], before: Read) -> Result<Read, Refusal>
-    requires { Room 4 text.now tape.old before.next before.end }
-    ensures gives { Gives (from before.names) (list_w (block_w name_w callee_w)) (rest text.now [] ◌∷◌ (a_block text.now) "BLOCK" "" before.names before.next) tape.old before.end tape.new result }
-    ensures spends { Spends 0 0 (length text.now) before.next before.end result }
-{
-    let mut read = before;
-    loop {
-        match marks::separator(text, read.next, Key::Block, Key::Nothing)? {
-            Divided::Last(next) => return Ok(Read { next, ..read }),
-            Divided::Another(Spot { next, place }) => {
-                let item = block(text, tape, Read { next, ..read }, place)?;
-                read = Read {
-                    names: read.names + 1,
-                    ..item
-                };
-            }
-        }
+// A block, as an item of a list.
+#[derive(Clone, Copy)]
+struct OneBlock;
+
+impl Item for OneBlock {
+    ghost reads = { λ _. ItemReads (block_w name_w callee_w) a_block };
+
+    ghost lists = { λ _. Lists (block_w name_w callee_w) a_block "BLOCK" "" };
+
+    ghost room = { 4 };
+
+    ghost SEPARATOR = { Block };
+
+    ghost CLOSE = { Nothing };
+
+    ghost seen = { block-seen };
+
+    ghost laws = { λ _. laws_of _ _ _ _ blocks-row };
+
+    const SEPARATOR: Key = Key::Block;
+
+    const CLOSE: Key = Key::Nothing;
+
+    fn read(
+        self,
+        text: &[u8],
+        tape: &mut [u32],
+        before: Read,
+        place: usize,
+    ) -> Result<Read, Refusal> {
+        block(text, tape, before, place)
     }
 }
 
@@ -88,7 +104,7 @@ pub fn blocks(text: &[u8], tape: &mut [u32], to: usize) -> Result<Read, Refusal>
         names: 0,
     };
     let first = block(text, tape, start, place)?;
-    more_blocks(text, tape, Read { names: 1, ..first })
+    declarations::more(text, tape, Read { names: 1, ..first }, OneBlock)
 }
 
 // As `read_program`, but that a refusal leaves on the table what was read before it.

@@ -1,4 +1,5 @@
-// Statements: calls and loops, onto the tape. Lists are loops; a loop's body and its statements call each other.
+// Statements: calls and loops, onto the tape. A loop's body and its statements call each other.
+// Each list has a loop of its own: one over a trait of items would ask of each item a struct, ghost members and an impl, as long as its loop.
 #![tactic(auto)]
 
 ghost use Rattle.std.specs.Prelude.{◌≡◌, [], ◌∷◌, ◌+◌, ◌≤◌, ◌<◌, length};
@@ -12,7 +13,7 @@ ghost use Rattle.tape.specs.Written.{Gives, none};
 ghost use Rattle.marks.specs.Room.{Room, Spends};
 ghost use Rattle.statements.specs.Heads.{Heads};
 
-use marks::{Divided, Key};
+use marks::{Divided, Key, Spot};
 use rules::{Reason, Refusal, Word};
 use tape::{Kind, Read};
 
@@ -140,14 +141,14 @@ fn values(text: &[u8], tape: &mut [u32], at: usize, to: usize) -> Result<Read, R
     more_values(text, tape, first.next, first.end)
 }
 
-// A call whose name goes from p to q.
-fn call(text: &[u8], tape: &mut [u32], p: usize, q: usize, to: usize) -> Result<Read, Refusal>
-    requires { Room 15 text.now tape.old p to × (p < q) × (q ≤ length text.now) × (q ≤ p + 16) }
-    ensures gives { Gives none (stmts_w name_w callee_w) (calling text.now (spelling text.now p q) q) tape.old to tape.new result }
-    ensures spends { Spends 0 1 (length text.now) p to result }
+// A call of a name.
+fn call(text: &[u8], tape: &mut [u32], name: Spot, to: usize) -> Result<Read, Refusal>
+    requires { Room 15 text.now tape.old name.place to × (name.place < name.next) × (name.next ≤ length text.now) × (name.next ≤ name.place + 16) }
+    ensures gives { Gives none (stmts_w name_w callee_w) (calling text.now (spelling text.now name.place name.next) name.next) tape.old to tape.new result }
+    ensures spends { Spends 0 1 (length text.now) name.place to result }
 {
-    tape::store_name(tape, to, Kind::Call, 0, p, q);
-    let generics = values(text, tape, q, to + 1)?;
+    tape::store_name(tape, to, Kind::Call, 0, name.place, name.next);
+    let generics = values(text, tape, name.next, to + 1)?;
     let inputs = arguments(text, tape, generics.next, generics.end, Kind::Input)?;
     let outputs = arguments(text, tape, inputs.next, inputs.end, Kind::Output)?;
     Ok(Read {
@@ -194,7 +195,7 @@ fn statement(
     let word = words::word_at(text, at);
     match word {
         Word::Bad(_) | Word::Number(_, _, _) => Err(marks::unwanted(word)),
-        Word::Name(p, q) => call(text, tape, p, q, to),
+        Word::Name(place, next) => call(text, tape, Spot { next, place }, to),
         Word::Mark(b, place, next) => {
             if b != Key::Generate.code() {
                 return Err(marks::unwanted(word));
@@ -217,7 +218,7 @@ fn statement(
     }
 }
 
-// What stands after a statement: more of them, and END.
+// What stands after a statement: more of them, and END. The cycle of statements cannot go through a function that is given its item.
 #[cycle(more_statements_statement_statements)]
 fn more_statements(
     text: &[u8],

@@ -21,4 +21,4 @@ returns-in_err-first-clause-gives c = gives_on (from 0) (list_w generic_w) _ _ _
 
 pub returns-clause-gives : goal.returns-clause-gives
 unfolding generics_at
-returns-clause-gives c = via _ _ _ _ _ c.more_generics.result (there "(" _ _ _ _ c.in-Some.ensures.spots) (first (generics-row _) 0 _ _ c.more_generics.result c.in_ok-first.ensures.gives c.more_generics.ensures.gives)
+returns-clause-gives c = via _ _ _ _ _ c.more.result (there "(" _ _ _ _ c.in-Some.ensures.spots) (first (generics-row _) 0 _ _ c.more.result c.in_ok-first.ensures.gives c.more.ensures.lists)

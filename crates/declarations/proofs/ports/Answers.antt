@@ -29,4 +29,4 @@ returns-in_err-first-clause-gives c = gives_on (from _) (list_w (decl_w name_w _
 
 pub returns-clause-gives : goal.returns-clause-gives
 unfolding ports_at any
-returns-clause-gives c = via _ _ _ _ _ c.more_ports.result (on _ _ _ (passed "[" _ _ c.in_ok-next.ensures.tells) ∙ absent "]" _ _ _ _ c.in_default.ensures.spots) (first_of (ports-row _ _) _ _ _ c.more_ports.result c.in_ok-first.ensures.gives (c.args.before.names + 1) (omega arith) c.more_ports.ensures.gives)
+returns-clause-gives c = via _ _ _ _ _ c.more.result (on _ _ _ (passed "[" _ _ c.in_ok-next.ensures.tells) ∙ absent "]" _ _ _ _ c.in_default.ensures.spots) (first_of (ports-row _ _) _ _ _ c.more.result c.in_ok-first.ensures.gives (c.args.before.names + 1) (omega arith) c.more.ensures.lists)
