@@ -1,5 +1,5 @@
 -- What an answer of the code tells. Assumes nothing.
-use Rattle.std.specs.Prelude.{◌≡◌, ℕ, ◌<◌, Result, Ok, Err}
+use Rattle.std.specs.Prelude.{◌≡◌, ℕ, Result, Ok, Err}
 use Rattle.std.proofs.Common.{ap, arith}
 use Rattle.rules.specs.Reasons.{number}
 use Rattle.rules.specs.Numbers.{same-refusal, number-some}

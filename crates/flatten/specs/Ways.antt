@@ -1,7 +1,8 @@
 -- How the code comes to its answer, layer by layer. Assumes nothing.
 use Rattle.std.specs.Prelude.{◌≡◌, refl, ℕ, ◌≤◌, ◌<◌, Bool, true, false, ◌&&◌, List, length, leb, Result, Ok, Err}
 use Rattle.std.proofs.Common.{sym, ap, ◌∙◌, subst, le-leb}
-use Rattle.std.proofs.lemmas.Bool.{lt-leb}
+use Rattle.std.proofs.lemmas.Bool.{lt-leb, false≢true}
+use Rattle.std.specs.Result.{is_err}
 use Rattle.rules.specs.Text.{zeros}
 use Rattle.rules.specs.Outcome.{Out, ok, refuse, ◌>>=◌, need}
 use Rattle.rules.specs.Syntax.{Spelled, Program}
@@ -33,22 +34,21 @@ pub record WasRead (s t : List ℕ) (end : ℕ) : Type 0 where
 
 -- ---- answers
 
-pub refused-is : {o : Out Unfolded} {e : Refusal} (len : ℕ) {words : List ℕ} → words ≡ zeros len → o ≡ refuse (number e.reason) e.place → seen (told (Err e)) words ≡ answer len o
+pub refused-is : {o : Out Unfolded} (e : Refusal) (len : ℕ) {words : List ℕ} → words ≡ zeros len → o ≡ refuse (number e.reason) e.place → seen (told (Err e)) words ≡ answer len o
 unfolding answer
-refused-is len w e = rw (e, w)
+refused-is d len w e = rw (e, w)
 
 -- what the unfolding left, where it came to an end
-pub done-is : (o : Out Unfolded) {r : Result ℕ Refusal} {n : ℕ} (len : ℕ) (words : List ℕ) → r ≡ Ok n → Nets o len r words → seen (told r) words ≡ answer len o
+pub done-is : (o : Out Unfolded) (r : Result ℕ Refusal) (len : ℕ) (words : List ℕ) → is_err r ≡ false → Nets o len r words → seen (told r) words ≡ answer len o
 unfolding answer Nets
-done-is o {r} {n} len words e a = rw e (go (subst (λ r. Nets o len r words) e a))
-  where
-    go : Nets o len (Ok n) words → seen (told (Ok n)) words ≡ answer len o
-    go (u, is, steps, all) = rw (is, steps, all)
+done-is o (Ok n) len words e (u, is, steps, all) = rw (is, steps, all)
+done-is o (Err d) len words e a = absurd (false≢true (sym e))
 
 -- and where it was refused, and then its words are cleared
-pub no-is : (o : Out Unfolded) {r : Result ℕ Refusal} {d : Refusal} (len : ℕ) (words : List ℕ) {cleared : List ℕ} → r ≡ Err d → Nets o len r words → cleared ≡ zeros len → seen (told r) cleared ≡ answer len o
+pub no-is : (o : Out Unfolded) (r : Result ℕ Refusal) (len : ℕ) (words : List ℕ) {cleared : List ℕ} → is_err r ≡ true → Nets o len r words → cleared ≡ zeros len → seen (told r) cleared ≡ answer len o
 unfolding Nets
-no-is o {r} {d} len words {cleared} e a z = rw e (refused-is {o = o} len z (subst (λ r. Nets o len r words) e a))
+no-is o (Ok n) len words e a z = absurd (false≢true e)
+no-is o (Err d) len words e a z = refused-is {o = o} d len z a
 
 -- ---- names
 
@@ -126,6 +126,10 @@ pub was_read : {text before after : List ℕ} {end : ℕ} → Read-right text be
 was_read r = record { program = r.program; reads = r.reads; holds = r.holds }
 
 -- the whole
-pub flatten-is : (text words : List ℕ) (work net : ℕ) {r : Result ℕ Refusal} {o : Out Unfolded} → flattened text work net ≡ o → seen (told r) words ≡ answer net o → seen (told r) words ≡ flatten text work net
+pub flatten-is : (r : Result ℕ Refusal) (text words : List ℕ) (work net : ℕ) {o : Out Unfolded} → flattened text work net ≡ o → seen (told r) words ≡ answer net o → seen (told r) words ≡ flatten text work net
 unfolding flatten
-flatten-is text words work net e a = a ∙ ap (answer net) (sym e)
+flatten-is r text words work net e a = a ∙ ap (answer net) (sym e)
+
+-- refused, and the netlist holds zeros
+pub refused-so : (d : Refusal) (text words : List ℕ) (work net : ℕ) → words ≡ zeros net → flattened text work net ≡ refuse (number d.reason) d.place → seen (told (Err d)) words ≡ flatten text work net
+refused-so d text words work net z e = flatten-is (Err d) text words work net e (refused-is d net z refl)
