@@ -18,7 +18,7 @@ use Rattle.frames.specs.declared.Fresh.{Fresh}
 use Rattle.frames.specs.declared.Vector.{Vector}
 use Rattle.rules.specs.declared.Refusal.{Refusal}
 use Rattle.rules.specs.Reasons.{number as number_of}
-use Rattle.frames.specs.Laid.{column, column-length}
+use Rattle.frames.specs.Laid.{column}
 use Rattle.frames.specs.Rows.{among_of, Alone, Listed, Starts, starting, rest, alone, more, no_more}
 use Rattle.frames.specs.Stands.{base_of, len_of, vector_of, no_vector, Inside}
 use Rattle.frames.specs.Lists.{stored}
@@ -55,9 +55,6 @@ pub record WrittenDecls (t : List ℕ) (at end kind to : ℕ) (vs : List Vector)
 -- a state with a next wire
 abbrev pub some-state : ℕ → State
 some-state w = record { next = w; steps = 0; gates = [] }
-
-pub filled-full : {σ : Names Range} {k : ℕ} {vs : List Vector} → Filled σ k vs → length vs ≡ 48
-filled-full {σ} f = ap length f.names ∙ column-length 48 no_vector (map vector_of σ)
 
 starts-decls : {t : List ℕ} {end kind : ℕ} → Starts t end kind kind (name_words kind) (Declared kind)
 starts-decls {t} {end} {kind} d i g l s = decl-starts end kind kind g (omega arith) (omega arith) l

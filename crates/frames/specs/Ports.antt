@@ -197,6 +197,3 @@ module _ {ρ : Env} {t : List ℕ} {at end to : ℕ} {xs : List Port} {vs₀ : L
     tying-end e =
         let f = finish starts-ports d.going e in
         (d.found, sym (runs-tie ρ xs) ∙ f.0, f.1, omega (arith, d.count, d.going.count), d.names)
-
-    pub tying-room : (i < 33554432) × (k ≤ to + i)
-    tying-room = (omega (arith, d.going.listed.within, d.going.listed.short), omega (arith, d.count, d.going.from))

@@ -27,7 +27,7 @@ pub struct Vector {
     pub low: i32,
 }
 
-// The wires of each name; the value of each generic and of each loop's index.
+// The wires of each name; the value of each generic and of each loop's index. Arrays of a fixed size: the project uses no heap.
 #[derive(Clone, Copy)]
 pub struct Frame {
     pub names: [Vector; 48],
@@ -95,6 +95,7 @@ fn argument(tape: &[u32], frame: &Frame, at: usize, end: usize) -> Result<Found,
 {
     let word = tape[at];
     let Vector { base, len, low } = frame.names[tape::value_of(word)];
+    // A head is a number of the tape's layout: 0 where no subscript follows.
     if tape::head_of(word) == 0 {
         return Ok(Found {
             base,

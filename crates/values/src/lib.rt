@@ -281,6 +281,7 @@ pub fn measure(tape: &[u32], values: &[i32; 48], at: usize, end: usize) -> Resul
 {
     let head = tape::head_of(tape[at]);
     let next = at + 1;
+    // A head is a number of the tape's layout: 0 one wire, 2 a number, else a vector.
     match head {
         0 => Ok(Size {
             low: 0,
