@@ -1,7 +1,7 @@
 // What the names of one use of a block stand for: wires, and values.
 #![tactic(auto)]
 
-ghost use Rattle.std.specs.Prelude.{◌≡◌, ℕ, ◌+◌, ◌*◌, ◌-◌, ◌<◌, ◌≤◌, List, ◌++◌, length, get_or, set, replicate, pos};
+ghost use Rattle.std.specs.Prelude.{◌≡◌, ℕ, ◌+◌, ◌*◌, ◌-◌, ◌<◌, ◌≤◌, List, ◌++◌, length, get_or, replicate, pos};
 ghost use Rattle.rules.specs.Syntax.{Exp, Arg, Decl};
 ghost use Rattle.rules.specs.Values.{Env, evals, bound};
 ghost use Rattle.rules.specs.Frames.{Frame as Names, resolve, resolves};
@@ -124,16 +124,7 @@ pub fn among(tape: &[u32], i: usize, end: usize, lo: Kind, hi: Kind) -> bool
     i < end && lo.code() <= tape::kind_of(tape[i]) && tape::kind_of(tape[i]) <= hi.code()
 }
 
-// A resolved call never gives more than there are places; what would lie past them is not kept.
-fn keep<T: Copy>(into: &mut [T], k: usize, x: T)
-    ensures { into.new ≡ set into.old k x }
-{
-    if k < into.len() {
-        into[k] = x;
-    }
-}
-
-// The values of the generics given from `at` on.
+// The values of the generics given from `at` on. A resolved call never gives more than there are places; what would lie past them is not kept.
 pub fn evaluate(
     tape: &[u32],
     values: &[i32; 48],
@@ -151,7 +142,7 @@ pub fn evaluate(
     // No range: how many words a value has is known when it is read.
     while among(tape, next, end, Kind::Number, Kind::Bracket) {
         let given = values::eval(tape, values, next, end).ok_or(Reason::OutOfRange)?;
-        keep(into, filled, given.value);
+        tape::keep(into, filled, given.value);
         filled += 1;
         next = given.next;
     }
@@ -182,7 +173,7 @@ pub fn arguments(
             len: found.len,
             low: 0,
         };
-        keep(names, filled, vector);
+        tape::keep(names, filled, vector);
         filled += 1;
         next = found.next;
     }
@@ -258,7 +249,7 @@ pub fn declare(
             len: size.wires as u16,
             low: size.low,
         };
-        keep(names, filled, vector);
+        tape::keep(names, filled, vector);
         filled += 1;
         wires += size.wires;
         next = size.next;

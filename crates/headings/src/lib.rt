@@ -2,7 +2,7 @@
 // Cost: gathering passes over the tape once for each row; a heading is at most 48 words; a call's words are passed three times.
 #![tactic(auto)]
 
-ghost use Rattle.std.specs.Prelude.{◌≡◌, ◌+◌, ◌<◌, ◌≤◌, length, drop, get_or, set, eqb};
+ghost use Rattle.std.specs.Prelude.{◌≡◌, ◌+◌, ◌<◌, ◌≤◌, length, drop, get_or, eqb};
 ghost use Rattle.rules.specs.Text.{pick};
 ghost use Rattle.tape.specs.Layout.{kind_of, head_in, value_of, GENERIC};
 ghost use Rattle.tape.specs.Kinds.{code as kind_code};
@@ -49,15 +49,6 @@ impl Callee {
     }
 }
 
-// An element of a row is set; past its end nothing is.
-pub fn keep<T: Copy>(row: &mut [T], i: usize, element: T)
-    ensures { row.new ≡ set row.old i element }
-{
-    if i < row.len() {
-        row[i] = element;
-    }
-}
-
 fn is_heading(word: u32) -> bool
     ensures { result ≡ heading word }
 {
@@ -72,7 +63,7 @@ pub fn gather_heads(tape: &[u32], heads: &mut [u32])
     let mut next: usize = 4;
     for word in tape {
         if is_heading(*word) {
-            keep(heads, next, *word);
+            tape::keep(heads, next, *word);
             next += 1;
         }
     }
@@ -85,7 +76,7 @@ pub fn gather_titles(tape: &[u32], rows: &mut [u32]) -> usize
     let mut blocks: usize = 0;
     for word in tape {
         if tape::is(*word, Kind::Block) {
-            keep(rows, blocks, *word);
+            tape::keep(rows, blocks, *word);
             blocks += 1;
         }
     }
@@ -101,7 +92,7 @@ pub fn gather_firsts(tape: &[u32], places: &mut [usize])
     for word in tape {
         if is_heading(*word) {
             if tape::is(*word, Kind::Block) {
-                keep(places, blocks, next);
+                tape::keep(places, blocks, next);
                 blocks += 1;
             }
             next += 1;

@@ -174,7 +174,7 @@ fn enter(until: &mut [usize], index: Option<usize>, end: usize)
 {
     if let Some(index) = index {
         let known = until.get(index).copied().unwrap_or(0);
-        headings::keep(until, index, known.max(end));
+        tape::keep(until, index, known.max(end));
     }
 }
 
@@ -230,7 +230,7 @@ fn on_declared(text: &[u8], scope: &mut [u32], word: u32, spot: Spot) -> Result<
     if spellings::declared_before(text, before, spellings::letters(text, word)) {
         return Err(refusal(Reason::DeclaredTwice, word));
     }
-    headings::keep(scope, spot.count, word);
+    tape::keep(scope, spot.count, word);
     Ok(Step {
         word,
         spot: Spot {

@@ -84,3 +84,12 @@ pub fn store_name(tape: &mut [u32], to: usize, kind: Kind, head: u32, p: usize, 
 {
     store(tape, to, kind, head, p * 32 + (q - p));
 }
+
+// An element of a row is set; past its end nothing is.
+pub fn keep<T: Copy>(row: &mut [T], i: usize, element: T)
+    ensures { row.new ≡ set row.old i element }
+{
+    if i < row.len() {
+        row[i] = element;
+    }
+}
