@@ -1,4 +1,4 @@
-use Rattle.declarations.specs.Kept.{from}
+use Rattle.lists.specs.Items.{from}
 use Rattle.grammar.specs.Parts.{text-off, text-gives}
 use Rattle.marks.specs.Laws.Exits.{gives_on}
 use Rattle.marks.specs.Laws.One.{stop, passed}
