@@ -5,7 +5,7 @@ ghost use Rattle.std.specs.Prelude.{◌+◌, ◌<◌, length};
 ghost use Rattle.rules.specs.Grammar.{a_block, blocks as blocks_at};
 ghost use Rattle.tape.specs.Layout.{name_w};
 ghost use Rattle.tape.specs.Encoding.{list_w, block_w, callee_w};
-ghost use Rattle.tape.specs.Written.{Gives, none};
+ghost use Rattle.tape.specs.Written.{Gives};
 ghost use Rattle.marks.specs.Room.{Room, Spends};
 ghost use Rattle.marks.specs.declared.Key.TheVariants.{Nothing, Block};
 ghost use Rattle.lists.specs.Items.{from, and-one, block-seen, Reads as ItemReads, Lists, laws_of};
