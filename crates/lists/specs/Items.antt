@@ -51,8 +51,8 @@ Lists words item sep close s t b u r = Gives (from b.names) (list_w words) (rest
 
 -- an item that was read, and counted
 module _ {A : Type 0} {words : A → List ℕ} {o : Out (A × ℕ)} {t : List ℕ} {to : ℕ} {u : List ℕ} {n m c : ℕ} (k : ℕ) where
-  pub counted : Got none words o t to u n m c → Got (and-one k) words o t to u n m (k + 1)
-  counted g = record { value = g.value; reads = g.reads; wrote = g.wrote; counts = refl }
+  pub counted : {d : ℕ} → Got none words o t to u n m c → d ≡ k + 1 → Got (and-one k) words o t to u n m d
+  counted g e = record { value = g.value; reads = g.reads; wrote = g.wrote; counts = e }
 
   pub uncounted : Got (and-one k) words o t to u n m c → Got none words o t to u n m 0
   uncounted g = record { value = g.value; reads = g.reads; wrote = g.wrote; counts = refl }

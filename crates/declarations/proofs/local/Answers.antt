@@ -24,4 +24,4 @@ pub returns-in_err-semicolon-clause-gives : goal.returns-in_err-semicolon-clause
 returns-in_err-semicolon-clause-gives c = gives_on (and-one c.args.before.names) (decl_w name_w VAR) _ _ _ _ _ c.from_residual-in_err-semicolon.ensures.1 (local-off _ _ _ _ _ _ c.in_ok-name.ensures.tells (omega (arith, c.in_ok-name.ensures.named)) (passed ":" _ _ c.in_ok-colon.ensures.tells) c.in_ok-read.ensures.gives (passed ";" _ _ c.in_err-semicolon.ensures.tells))
 
 pub returns-clause-gives : goal.returns-clause-gives
-returns-clause-gives c = counted _ (local-got _ _ _ _ _ _ c.in_ok-name.ensures.tells (omega (arith, c.in_ok-name.ensures.named)) (passed ":" _ _ c.in_ok-colon.ensures.tells) c.in_ok-read.ensures.gives (passed ";" _ _ c.in_ok-semicolon.ensures.tells))
+returns-clause-gives c = counted _ (local-got _ _ _ _ _ _ c.in_ok-name.ensures.tells (omega (arith, c.in_ok-name.ensures.named)) (passed ":" _ _ c.in_ok-colon.ensures.tells) c.in_ok-read.ensures.gives (passed ";" _ _ c.in_ok-semicolon.ensures.tells)) (omega arith)

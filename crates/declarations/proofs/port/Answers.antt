@@ -23,4 +23,4 @@ unfolding port_at
 returns-in_err-read-clause-gives c = gives_on (and-one c.args.before.names) (decl_w name_w _) _ _ _ _ _ c.from_residual-in_err-read.ensures.1 (on _ _ _ c.in_ok-name.ensures.tells ∙ on _ _ _ (passed ":" _ _ c.in_ok-colon.ensures.tells) ∙ stop _ _ _ c.in_err-read.ensures.gives)
 
 pub returns-clause-gives : goal.returns-clause-gives
-returns-clause-gives c = counted _ (port-gives _ _ _ _ _ _ c.in_ok-name.ensures.tells (omega (arith, c.in_ok-name.ensures.named)) (passed ":" _ _ c.in_ok-colon.ensures.tells) _ _ _ (Ok _) c.in_ok-read.ensures.gives)
+returns-clause-gives c = counted _ (port-gives _ _ _ _ _ _ c.in_ok-name.ensures.tells (omega (arith, c.in_ok-name.ensures.named)) (passed ":" _ _ c.in_ok-colon.ensures.tells) _ _ _ (Ok _) c.in_ok-read.ensures.gives) (omega arith)

@@ -18,4 +18,4 @@ pub returns-in_err-semicolon-clause-gives : goal.returns-in_err-semicolon-clause
 returns-in_err-semicolon-clause-gives c = gives_on (and-one c.args.before.names) (block_w name_w callee_w) _ _ _ _ _ c.from_residual-in_err-semicolon.ensures.1 (block-off _ _ _ _ (omega arith) c.in_ok-heading.ensures.titles c.in_ok-body.ensures.gives (passed ";" _ _ c.in_err-semicolon.ensures.tells))
 
 pub returns-clause-gives : goal.returns-clause-gives
-returns-clause-gives c = counted _ (block-got _ _ _ _ (omega arith) c.in_ok-heading.ensures.titles c.in_ok-body.ensures.gives (passed ";" _ _ c.in_ok-semicolon.ensures.tells) c.store.ensures)
+returns-clause-gives c = counted _ (block-got _ _ _ _ (omega arith) c.in_ok-heading.ensures.titles c.in_ok-body.ensures.gives (passed ";" _ _ c.in_ok-semicolon.ensures.tells) c.store.ensures) (omega arith)
