@@ -1,7 +1,7 @@
 // What a block declares: generics, ports and VARs, onto the tape.
 #![tactic(auto)]
 
-ghost use Rattle.std.specs.Prelude.{[], ◌∷◌, ℕ, ◌+◌, ◌<◌, length, IfOk};
+ghost use Rattle.std.specs.Prelude.{[], ◌∷◌, ◌+◌, ◌<◌, length, IfOk};
 ghost use Rattle.rules.specs.Syntax.{num};
 ghost use Rattle.rules.specs.Readers.{spelling, if_next, give, rest};
 ghost use Rattle.rules.specs.Grammar.{declared as declared_at, a_type, port as port_at, local as local_at, generics as generics_at, ports as ports_at};
@@ -10,9 +10,7 @@ ghost use Rattle.tape.specs.Kinds.{code};
 ghost use Rattle.tape.specs.Encoding.{list_w, sort_w, decl_w, generic_w};
 ghost use Rattle.tape.specs.Written.{Gives, none};
 ghost use Rattle.marks.specs.Marks.{Tells};
-ghost use Rattle.marks.specs.Keys.{code as code_of};
-ghost use Rattle.marks.specs.declared.Key.{Key};
-ghost use Rattle.marks.specs.Room.{Room, Spends, Named, wide};
+ghost use Rattle.marks.specs.Room.{Room, Spends, Named};
 ghost use Rattle.lists.specs.Items.{from, and-one, Reads, Lists, laws_of, comma-seen, var-seen};
 ghost use Rattle.declarations.specs.Rows.{generics-row, ports-row, locals-row};
 ghost use Rattle.marks.specs.declared.Key.TheVariants.{Var, Begin, Close, Comma, Right};
