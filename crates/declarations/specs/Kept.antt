@@ -1,5 +1,5 @@
 -- What the declarations of a block leave on the tape. Assumes nothing.
-use Rattle.std.specs.Prelude.{◌≡◌, ℕ, ◌+◌, ◌≤◌, ◌<◌, Result, Ok, Err, List, ◌++◌, length}
+use Rattle.std.specs.Prelude.{◌≡◌, ℕ, ◌+◌, ◌≤◌, ◌<◌, Result, Ok, Err, List, ◌++◌}
 use Rattle.rules.specs.Outcome.{ok, refuse}
 use Rattle.rules.specs.Syntax.{vector}
 use Rattle.rules.specs.Grammar.{Expr, vectored}
@@ -10,10 +10,6 @@ use Rattle.tape.specs.declared.Read.{Read}
 use Rattle.rules.specs.Reasons.{number}
 use Rattle.rules.specs.declared.Refusal.{Refusal}
 use Rattle.marks.specs.declared.Spot.{Spot}
-
--- how many there are after k and these
-abbrev pub from : {A : Type 0} → ℕ → List A → ℕ
-from k l = k + length l
 
 -- what was read is allowed, so there were fewer than `most` before it
 abbrev pub Below : {A : Type 0} → ℕ → ℕ → Result A Refusal → Type 0

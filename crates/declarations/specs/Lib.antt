@@ -1,4 +1,3 @@
 pub mod Kept
 pub mod Rows
 pub mod Parts
-pub mod Items

@@ -7,7 +7,7 @@ use Rattle.tape.specs.Layout.{name_w, VAR}
 use Rattle.tape.specs.Encoding.{list_w, decl_w, generic_w}
 use Rattle.tape.specs.Written.{none}
 use Rattle.marks.specs.Laws.Lists.{Row, list-empty, list-split}
-use Rattle.declarations.specs.Kept.{from}
+use Rattle.lists.specs.Items.{from}
 
 pub grows : {A : Type 0} (k : ℕ) (a : A) (b : List A) → from (suc k) b ≡ from k (a ∷ b)
 grows k a b = omega arith

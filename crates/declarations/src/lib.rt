@@ -1,7 +1,7 @@
 // What a block declares: generics, ports and VARs, onto the tape.
 #![tactic(auto)]
 
-ghost use Rattle.std.specs.Prelude.{[], ◌∷◌, ℕ, ◌+◌, ◌<◌, length, IfOk};
+ghost use Rattle.std.specs.Prelude.{[], ◌∷◌, ◌+◌, ◌<◌, length, IfOk};
 ghost use Rattle.rules.specs.Syntax.{num};
 ghost use Rattle.rules.specs.Readers.{spelling, if_next, give, rest};
 ghost use Rattle.rules.specs.Grammar.{declared as declared_at, a_type, port as port_at, local as local_at, generics as generics_at, ports as ports_at};
@@ -10,74 +10,16 @@ ghost use Rattle.tape.specs.Kinds.{code};
 ghost use Rattle.tape.specs.Encoding.{list_w, sort_w, decl_w, generic_w};
 ghost use Rattle.tape.specs.Written.{Gives, none};
 ghost use Rattle.marks.specs.Marks.{Tells};
-ghost use Rattle.marks.specs.Keys.{code as code_of};
-ghost use Rattle.marks.specs.declared.Key.{Key};
-ghost use Rattle.marks.specs.Room.{Room, Spends, Named, wide};
-ghost use Rattle.declarations.specs.Items.{Reading, Listed, ListLaws, Reads, Lists, laws_of, comma-seen, var-seen};
+ghost use Rattle.marks.specs.Room.{Room, Spends, Named};
+ghost use Rattle.lists.specs.Items.{from, and-one, Reads, Lists, laws_of, comma-seen, var-seen};
 ghost use Rattle.declarations.specs.Rows.{generics-row, ports-row, locals-row};
 ghost use Rattle.marks.specs.declared.Key.TheVariants.{Var, Begin, Close, Comma, Right};
-ghost use Rattle.declarations.specs.Kept.{Below, Vectors, Fits, from};
+ghost use Rattle.declarations.specs.Kept.{Below, Vectors, Fits};
 
-use marks::{Divided, Key, Spot};
+use lists::Item;
+use marks::{Key, Spot};
 use rules::{Reason, Refusal};
 use tape::{Kind, Read};
-
-// An item of a list: what it is to the grammar, its marks, and its reader.
-pub trait Item: Copy {
-    ghost reads: { Self → Reading };
-
-    ghost lists: { Self → Listed };
-
-    // The bytes of text that the rest of a list leaves room for.
-    ghost room: { ℕ };
-
-    ghost SEPARATOR: { Key };
-
-    ghost CLOSE: { Key };
-
-    const SEPARATOR: Key;
-
-    const CLOSE: Key;
-
-    // Reads an item, after the mark at `place`.
-    fn read(
-        self,
-        text: &[u8],
-        tape: &mut [u32],
-        before: Read,
-        place: usize,
-    ) -> Result<Read, Refusal>
-        requires { Room (room + wide (code_of SEPARATOR)) text.now tape.old before.next before.end }
-        ensures gives { reads self text.now tape.old before place tape.new result }
-        ensures spends { Spends (wide (code_of SEPARATOR)) 0 (length text.now) before.next before.end result }
-        ensures below { Below 64 before.names result };
-
-    // The mark that divides is not the end of the text.
-    ghost seen: { 0 < wide (code_of SEPARATOR) };
-
-    ghost laws: { (x : Self) → ListLaws (code_of SEPARATOR) (code_of CLOSE) (reads x) (lists x) };
-}
-
-// What stands after an item of a list: more of them, and the mark that closes.
-pub fn more<I: Item>(text: &[u8], tape: &mut [u32], before: Read, item: I) -> Result<Read, Refusal>
-    requires { Room I.room text.now tape.old before.next before.end }
-    ensures lists { I.lists item text.now tape.old before tape.new result }
-    ensures spends { Spends 0 (wide (code_of I.CLOSE)) (length text.now) before.next before.end result }
-{
-    let mut read = before;
-    loop {
-        match marks::separator(text, read.next, I::SEPARATOR, I::CLOSE)? {
-            Divided::Last(next) => return Ok(Read { next, ..read }),
-            Divided::Another(Spot { next, place }) => {
-                let one = item.read(text, tape, Read { next, ..read }, place)?;
-                read = Read {
-                    names: read.names + 1,
-                    ..one
-                };
-            }
-        }
-    }
-}
 
 // A name that is declared, where `count` stand before it in its block.
 #[tactic(auto, using(crate::specs::Parts::allowed, crate::specs::Parts::over))]
@@ -96,19 +38,18 @@ fn declared(text: &[u8], at: usize, count: usize) -> Result<Spot, Refusal>
     })
 }
 
-// A generic of a block. Here and below, `before` is what stands before the part: where it ends, and how many names it declares.
+// A generic of a block. Here and below, `before` is what stands before the part: where it ends, and how many names it declares; the answer's `names` count it too.
 fn generic(text: &[u8], tape: &mut [u32], before: Read) -> Result<Read, Refusal>
     requires { Room 0 text.now tape.old before.next before.end }
-    ensures gives { Gives none generic_w (declared_at text.now before.names before.next) tape.old before.end tape.new result }
+    ensures gives { Gives (and-one before.names) generic_w (declared_at text.now before.names before.next) tape.old before.end tape.new result }
     ensures spends { Spends 1 0 (length text.now) before.next before.end result }
-    ensures below { Below 48 before.names result }
 {
     let name = declared(text, before.next, before.names)?;
     tape::store_name(tape, before.end, Kind::Generic, 0, name.place, name.next);
     Ok(Read {
         next: name.next,
         end: before.end + 1,
-        names: 0,
+        names: before.names + 1,
     })
 }
 
@@ -161,7 +102,7 @@ pub fn generics(text: &[u8], tape: &mut [u32], at: usize, to: usize) -> Result<R
         return Ok(start);
     };
     let first = generic(text, tape, Read { next, ..start })?;
-    more(text, tape, Read { names: 1, ..first }, OneGeneric)
+    lists::more(text, tape, first, OneGeneric)
 }
 
 // (a..b) OF WIRE, after VECTOR.
@@ -210,13 +151,14 @@ fn typed(
 // A port: a name, a colon and a type.
 fn port(text: &[u8], tape: &mut [u32], before: Read, kind: Kind) -> Result<Read, Refusal>
     requires { Room 8 text.now tape.old before.next before.end }
-    ensures gives { Gives none (decl_w name_w (code kind)) (port_at text.now before.names 0 before.next) tape.old before.end tape.new result }
+    ensures gives { Gives (and-one before.names) (decl_w name_w (code kind)) (port_at text.now before.names 0 before.next) tape.old before.end tape.new result }
     ensures spends { Spends 0 4 (length text.now) before.next before.end result }
-    ensures below { Below 48 before.names result }
 {
     let name = declared(text, before.next, before.names)?;
     let colon = marks::mark(text, name.next, Key::Colon)?;
-    typed(text, tape, colon.next, before.end, kind, name)
+    let read = typed(text, tape, colon.next, before.end, kind, name)?;
+    let names = before.names + 1;
+    Ok(Read { names, ..read })
 }
 
 // A port of this kind, as an item of a list.
@@ -269,11 +211,7 @@ pub fn ports(text: &[u8], tape: &mut [u32], before: Read, kind: Kind) -> Result<
         });
     }
     let first = port(text, tape, Read { next, ..before }, kind)?;
-    let read = Read {
-        names: before.names + 1,
-        ..first
-    };
-    more(text, tape, read, OnePort { kind })
+    lists::more(text, tape, first, OnePort { kind })
 }
 
 // The type of a declaration, of this name: NUM, or as of a port.
@@ -296,9 +234,8 @@ fn sort(text: &[u8], tape: &mut [u32], at: usize, to: usize, name: Spot) -> Resu
 // A declaration, after VAR.
 fn local(text: &[u8], tape: &mut [u32], before: Read) -> Result<Read, Refusal>
     requires { Room 8 text.now tape.old before.next before.end }
-    ensures gives { Gives none (decl_w name_w VAR) (local_at text.now before.names 0 before.next) tape.old before.end tape.new result }
+    ensures gives { Gives (and-one before.names) (decl_w name_w VAR) (local_at text.now before.names 0 before.next) tape.old before.end tape.new result }
     ensures spends { Spends 0 4 (length text.now) before.next before.end result }
-    ensures below { Below 48 before.names result }
 {
     let name = declared(text, before.next, before.names)?;
     let colon = marks::mark(text, name.next, Key::Colon)?;
@@ -306,7 +243,8 @@ fn local(text: &[u8], tape: &mut [u32], before: Read) -> Result<Read, Refusal>
     let semicolon = marks::mark(text, read.next, Key::Semicolon)?;
     Ok(Read {
         next: semicolon.next,
-        ..read
+        end: read.end,
+        names: before.names + 1,
     })
 }
 
@@ -350,5 +288,5 @@ pub fn locals(text: &[u8], tape: &mut [u32], before: Read) -> Result<Read, Refus
     ensures gives { Gives (from before.names) (list_w (decl_w name_w VAR)) (rest text.now [] ◌∷◌ (local_at text.now) "VAR" "BEGIN" before.names before.next) tape.old before.end tape.new result }
     ensures spends { Spends 0 5 (length text.now) before.next before.end result }
 {
-    more(text, tape, before, OneLocal)
+    lists::more(text, tape, before, OneLocal)
 }

@@ -13,7 +13,7 @@ use Rattle.tape.specs.declared.Read.{Read}
 use Rattle.rules.specs.declared.Refusal.{Refusal}
 use Rattle.marks.specs.Laws.One.{on, stop, spelt_is}
 use Rattle.marks.specs.Laws.Lists.{and-rest, via}
-use Rattle.declarations.specs.Kept.{from}
+use Rattle.lists.specs.Items.{from}
 use Rattle.grammar.specs.Titles.{Titled, Titles}
 use Rattle.grammar.specs.Rows.{blocks-row}
 

@@ -16,7 +16,7 @@ use Rattle.rules.specs.Reasons.{number}
 use Rattle.rules.specs.Numbers.{same-refusal}
 use Rattle.rules.specs.declared.Refusal.{Refusal}
 use Rattle.marks.specs.Room.{Room}
-use Rattle.declarations.specs.Kept.{from}
+use Rattle.lists.specs.Items.{from}
 
 -- "Order: 1, 2. Then words from the front", where a work table of this length is lent
 unfoldable pub read_text : List ℕ → ℕ → Out Spelled

@@ -6,7 +6,7 @@ use Rattle.tape.specs.Layout.{name_w}
 use Rattle.tape.specs.Encoding.{list_w, block_w, callee_w}
 use Rattle.tape.specs.Written.{none}
 use Rattle.marks.specs.Laws.Lists.{Row, list-empty, list-split}
-use Rattle.declarations.specs.Kept.{from}
+use Rattle.lists.specs.Items.{from}
 use Rattle.declarations.specs.Rows.{grows}
 
 pub blocks-row : (s : List ℕ) → Row s none (block_w name_w callee_w) from (list_w (block_w name_w callee_w)) [] ◌∷◌ (a_block s) "BLOCK" ""

@@ -5,16 +5,15 @@ ghost use Rattle.std.specs.Prelude.{◌+◌, ◌<◌, length};
 ghost use Rattle.rules.specs.Grammar.{a_block, blocks as blocks_at};
 ghost use Rattle.tape.specs.Layout.{name_w};
 ghost use Rattle.tape.specs.Encoding.{list_w, block_w, callee_w};
-ghost use Rattle.tape.specs.Written.{Gives, none};
+ghost use Rattle.tape.specs.Written.{Gives};
 ghost use Rattle.marks.specs.Room.{Room, Spends};
 ghost use Rattle.marks.specs.declared.Key.TheVariants.{Nothing, Block};
-ghost use Rattle.declarations.specs.Kept.{Below, from};
-ghost use Rattle.declarations.specs.Items.{block-seen, Reads as ItemReads, Lists, laws_of};
+ghost use Rattle.lists.specs.Items.{from, and-one, block-seen, Reads as ItemReads, Lists, laws_of};
 ghost use Rattle.grammar.specs.Rows.{blocks-row};
 ghost use Rattle.grammar.specs.Titles.{Titles};
 ghost use Rattle.grammar.specs.Promise.{Reads, Tries};
 
-use declarations::Item;
+use lists::Item;
 use marks::{Key, Spot};
 use rules::{Reason, Refusal};
 use tape::{Kind, Read};
@@ -33,13 +32,12 @@ fn title(text: &[u8], tape: &mut [u32], at: usize, to: usize) -> Result<Read, Re
     declarations::locals(text, tape, outputs)
 }
 
-// A block, after BLOCK, which stands at `place`, where `before.names` blocks stand before it.
+// A block, after BLOCK, which stands at `place`, where `before.names` blocks stand before it; the answer's `names` count it too.
 #[tactic(auto, using(crate::proofs::Limits::limits))]
 fn block(text: &[u8], tape: &mut [u32], before: Read, place: usize) -> Result<Read, Refusal>
     requires { Room 9 text.now tape.old before.next before.end }
-    ensures gives { Gives none (block_w name_w callee_w) (a_block text.now before.names place before.next) tape.old before.end tape.new result }
+    ensures gives { Gives (and-one before.names) (block_w name_w callee_w) (a_block text.now before.names place before.next) tape.old before.end tape.new result }
     ensures spends { Spends 0 10 (length text.now) before.next before.end result }
-    ensures below { Below 64 before.names result }
 {
     if before.names >= 64 {
         return Err(Refusal {
@@ -53,7 +51,8 @@ fn block(text: &[u8], tape: &mut [u32], before: Read, place: usize) -> Result<Re
     tape::store(tape, heading.end, Kind::Body, 0, body.end - heading.end - 1);
     Ok(Read {
         next: semicolon.next,
-        ..body
+        end: body.end,
+        names: before.names + 1,
     })
 }
 
@@ -104,7 +103,7 @@ pub fn blocks(text: &[u8], tape: &mut [u32], to: usize) -> Result<Read, Refusal>
         names: 0,
     };
     let first = block(text, tape, start, place)?;
-    declarations::more(text, tape, Read { names: 1, ..first }, OneBlock)
+    lists::more(text, tape, first, OneBlock)
 }
 
 // As `read_program`, but that a refusal leaves on the table what was read before it.

@@ -1,5 +1,4 @@
 // Statements: calls and loops, onto the tape. A loop's body and its statements call each other.
-// Each list has a loop of its own: one over a trait of items would ask of each item a struct, ghost members and an impl, as long as its loop.
 #![tactic(auto)]
 
 ghost use Rattle.std.specs.Prelude.{◌≡◌, [], ◌∷◌, ◌+◌, ◌≤◌, ◌<◌, length};
@@ -11,8 +10,12 @@ ghost use Rattle.tape.specs.Layout.{name_w};
 ghost use Rattle.tape.specs.Encoding.{exp_w, arg_w, list_w, stmts_w, callee_w};
 ghost use Rattle.tape.specs.Written.{Gives, none};
 ghost use Rattle.marks.specs.Room.{Room, Spends};
+ghost use Rattle.marks.specs.declared.Key.TheVariants.{Comma, Close, Right};
+ghost use Rattle.lists.specs.Items.{ReadsPlain, ListsPlain, plain_laws_of, comma-seen};
 ghost use Rattle.statements.specs.Heads.{Heads};
+ghost use Rattle.statements.specs.Rows.{arguments-row, values-row};
 
+use lists::Item;
 use marks::{Divided, Key, Spot};
 use rules::{Reason, Refusal, Word};
 use tape::{Kind, Read};
@@ -48,32 +51,39 @@ fn argument(
     })
 }
 
-// What stands after an argument: more of them, and the closing bracket.
-fn more_arguments(
-    text: &[u8],
-    tape: &mut [u32],
-    at: usize,
-    to: usize,
+// An argument of this kind, as an item of a list.
+#[derive(Clone, Copy)]
+struct OneArgument {
     kind: Kind,
-) -> Result<Read, Refusal>
-    requires { Room 14 text.now tape.old at to }
-    ensures gives { Gives none (list_w (arg_w name_w (code kind))) (rest text.now [] ◌∷◌ (λ _ _. argument_at text.now) "," "]" 1 at) tape.old to tape.new result }
-    ensures spends { Spends 0 1 (length text.now) at to result }
-{
-    let mut read = Read {
-        next: at,
-        end: to,
-        names: 0,
-    };
-    loop {
-        match marks::separator(text, read.next, Key::Comma, Key::Right)? {
-            Divided::Last(next) => {
-                return Ok(Read { next, ..read });
-            }
-            Divided::Another(spot) => {
-                read = argument(text, tape, spot.next, read.end, kind)?;
-            }
-        }
+}
+
+impl Item for OneArgument {
+    ghost reads = { λ a. ReadsPlain (arg_w name_w (code a.kind)) argument_at };
+
+    ghost lists = { λ a. ListsPlain (arg_w name_w (code a.kind)) argument_at "," "]" };
+
+    ghost room = { 14 };
+
+    ghost SEPARATOR = { Comma };
+
+    ghost CLOSE = { Right };
+
+    ghost seen = { comma-seen };
+
+    ghost laws = { λ a. plain_laws_of _ _ _ _ (λ s. arguments-row s (code a.kind)) };
+
+    const SEPARATOR: Key = Key::Comma;
+
+    const CLOSE: Key = Key::Right;
+
+    fn read(
+        self,
+        text: &[u8],
+        tape: &mut [u32],
+        before: Read,
+        _place: usize,
+    ) -> Result<Read, Refusal> {
+        argument(text, tape, before.next, before.end, self.kind)
     }
 }
 
@@ -98,29 +108,40 @@ fn arguments(
         });
     }
     let first = argument(text, tape, open.next, to, kind)?;
-    more_arguments(text, tape, first.next, first.end, kind)
+    lists::more(text, tape, first, OneArgument { kind })
 }
 
-// What stands after a generic of a call: more of them, and the closing bracket.
-fn more_values(text: &[u8], tape: &mut [u32], at: usize, to: usize) -> Result<Read, Refusal>
-    requires { Room 14 text.now tape.old at to }
-    ensures gives { Gives none (list_w (exp_w name_w 0)) (rest text.now [] ◌∷◌ (λ _ _. expression text.now) "," ")" 1 at) tape.old to tape.new result }
-    ensures spends { Spends 0 1 (length text.now) at to result }
-{
-    let mut read = Read {
-        next: at,
-        end: to,
-        names: 0,
-    };
-    loop {
-        match marks::separator(text, read.next, Key::Comma, Key::Close)? {
-            Divided::Last(next) => {
-                return Ok(Read { next, ..read });
-            }
-            Divided::Another(spot) => {
-                read = expressions::value(text, tape, spot.next, read.end)?;
-            }
-        }
+// A generic of a call, as an item of a list.
+#[derive(Clone, Copy)]
+struct OneValue;
+
+impl Item for OneValue {
+    ghost reads = { λ _. ReadsPlain (exp_w name_w 0) expression };
+
+    ghost lists = { λ _. ListsPlain (exp_w name_w 0) expression "," ")" };
+
+    ghost room = { 14 };
+
+    ghost SEPARATOR = { Comma };
+
+    ghost CLOSE = { Close };
+
+    ghost seen = { comma-seen };
+
+    ghost laws = { λ _. plain_laws_of _ _ _ _ values-row };
+
+    const SEPARATOR: Key = Key::Comma;
+
+    const CLOSE: Key = Key::Close;
+
+    fn read(
+        self,
+        text: &[u8],
+        tape: &mut [u32],
+        before: Read,
+        _place: usize,
+    ) -> Result<Read, Refusal> {
+        expressions::value(text, tape, before.next, before.end)
     }
 }
 
@@ -138,7 +159,7 @@ fn values(text: &[u8], tape: &mut [u32], at: usize, to: usize) -> Result<Read, R
         });
     };
     let first = expressions::value(text, tape, open.next, to)?;
-    more_values(text, tape, first.next, first.end)
+    lists::more(text, tape, first, OneValue)
 }
 
 // A call of a name.
@@ -218,7 +239,8 @@ fn statement(
     }
 }
 
-// What stands after a statement: more of them, and END. The cycle of statements cannot go through a function that is given its item.
+// What stands after a statement: more of them, and END.
+// It has a loop of its own: `lists::more` would call `statement` as a trait's method, and a cycle through one is not provable here.
 #[cycle(more_statements_statement_statements)]
 fn more_statements(
     text: &[u8],

@@ -1,12 +1,13 @@
-use Rattle.declarations.specs.Kept.{from}
+use Rattle.lists.specs.Items.{from, uncounted}
 use Rattle.declarations.specs.Rows.{generics-row}
 use Rattle.marks.specs.Laws.Exits.{gives_on}
-use Rattle.marks.specs.Laws.Lists.{first, first_off, list-empty, via}
+use Rattle.marks.specs.Laws.Lists.{first_of, first_off, list-empty, via}
 use Rattle.marks.specs.Laws.One.{there, absent}
 use Rattle.rules.specs.Grammar.{generics as generics_at}
 use Rattle.rules.specs.Readers.{give}
 use Rattle.tape.specs.Encoding.{list_w, generic_w}
 use Rattle.tape.specs.Written.{nothing, as-words}
+use native.Mathlib.Omega.{arith}
 use mathlib.Core.List.{[]}
 use mathlib.Core.Path.{refl, sym, ◌∙◌}
 use Rattle.declarations.proofs.generics.Goals as goal
@@ -21,4 +22,4 @@ returns-in_err-first-clause-gives c = gives_on (from 0) (list_w generic_w) _ _ _
 
 pub returns-clause-gives : goal.returns-clause-gives
 unfolding generics_at
-returns-clause-gives c = via _ _ _ _ _ c.more.result (there "(" _ _ _ _ c.in-Some.ensures.spots) (first (generics-row _) 0 _ _ c.more.result c.in_ok-first.ensures.gives c.more.ensures.lists)
+returns-clause-gives c = via _ _ _ _ _ c.more.result (there "(" _ _ _ _ c.in-Some.ensures.spots) (first_of (generics-row _) 0 _ _ c.more.result (uncounted 0 c.in_ok-first.ensures.gives) _ (omega (arith, c.in_ok-first.ensures.gives.counts)) c.more.ensures.lists)

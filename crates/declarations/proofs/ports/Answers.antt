@@ -1,5 +1,4 @@
-use Prim.Native.Nat.{◌+◌}
-use Rattle.declarations.specs.Kept.{from}
+use Rattle.lists.specs.Items.{from, uncounted}
 use Rattle.declarations.specs.Rows.{ports-row}
 use Rattle.marks.specs.Laws.Exits.{gives_on}
 use Rattle.marks.specs.Laws.Lists.{first_of, first_off, list-empty, via}
@@ -29,4 +28,4 @@ returns-in_err-first-clause-gives c = gives_on (from _) (list_w (decl_w name_w _
 
 pub returns-clause-gives : goal.returns-clause-gives
 unfolding ports_at any
-returns-clause-gives c = via _ _ _ _ _ c.more.result (on _ _ _ (passed "[" _ _ c.in_ok-next.ensures.tells) ∙ absent "]" _ _ _ _ c.in_default.ensures.spots) (first_of (ports-row _ _) _ _ _ c.more.result c.in_ok-first.ensures.gives (c.args.before.names + 1) (omega arith) c.more.ensures.lists)
+returns-clause-gives c = via _ _ _ _ _ c.more.result (on _ _ _ (passed "[" _ _ c.in_ok-next.ensures.tells) ∙ absent "]" _ _ _ _ c.in_default.ensures.spots) (first_of (ports-row _ _) _ _ _ c.more.result (uncounted c.args.before.names c.in_ok-first.ensures.gives) _ (omega (arith, c.in_ok-first.ensures.gives.counts)) c.more.ensures.lists)

@@ -1,4 +1,4 @@
-use Rattle.declarations.specs.Kept.{from}
+use Rattle.lists.specs.Items.{from, uncounted}
 use Rattle.grammar.specs.Parts.{text-off, text-gives}
 use Rattle.marks.specs.Laws.Exits.{gives_on}
 use Rattle.marks.specs.Laws.One.{stop, passed}
@@ -15,4 +15,4 @@ pub returns-in_err-first-clause-gives : goal.returns-in_err-first-clause-gives
 returns-in_err-first-clause-gives c = gives_on (from 0) (list_w (block_w name_w callee_w)) _ _ _ _ _ c.from_residual-in_err-first.ensures.1 (text-off _ (passed "BLOCK" _ _ c.in_ok-next.ensures.tells) c.in_err-first.ensures.gives)
 
 pub returns-clause-gives : goal.returns-clause-gives
-returns-clause-gives c = text-gives _ (passed "BLOCK" _ _ c.in_ok-next.ensures.tells) c.in_ok-first.ensures.gives _ c.more.result c.more.ensures.lists
+returns-clause-gives c = text-gives _ (passed "BLOCK" _ _ c.in_ok-next.ensures.tells) (uncounted 0 c.in_ok-first.ensures.gives) _ c.more.result (rw c.in_ok-first.ensures.gives.counts at c.more.ensures.lists)

@@ -29,5 +29,5 @@ returns-in_err-first-clause-gives c =
 pub returns-clause-gives : goal.returns-clause-gives
 unfolding arguments_at any
 returns-clause-gives c =
-    via _ _ _ _ _ c.more_arguments.result (on _ _ _ (passed "[" _ _ c.in_ok-open.ensures.tells) ∙ absent "]" _ _ _ _ c.in_default.ensures.spots)
-    (first (arguments-row _ _) 0 _ _ c.more_arguments.result c.in_ok-first.ensures.gives c.more_arguments.ensures.gives)
+    via _ _ _ _ _ c.more.result (on _ _ _ (passed "[" _ _ c.in_ok-open.ensures.tells) ∙ absent "]" _ _ _ _ c.in_default.ensures.spots)
+    (first (arguments-row _ _) 0 _ _ c.more.result c.in_ok-first.ensures.gives (c.more.ensures.lists 1 c.in_ok-first.ensures.gives.counts))

@@ -19,4 +19,4 @@ returns-in_err-first-clause-gives c =
 
 pub returns-clause-gives : goal.returns-clause-gives
 returns-clause-gives c =
-    via _ _ _ _ _ c.more_values.result (there "(" _ _ _ _ c.in-Some.ensures.spots) (first (values-row _) 0 _ _ c.more_values.result c.in_ok-first.ensures.gives c.more_values.ensures.gives)
+    via _ _ _ _ _ c.more.result (there "(" _ _ _ _ c.in-Some.ensures.spots) (first (values-row _) 0 _ _ c.more.result c.in_ok-first.ensures.gives (c.more.ensures.lists 1 c.in_ok-first.ensures.gives.counts))
