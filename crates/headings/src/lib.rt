@@ -17,16 +17,11 @@ use tape::Kind;
 // The headings of a tape's blocks.
 #[derive(Clone, Copy)]
 pub struct Headings<'a> {
-    // The text that spells their names.
-    pub text: &'a [u8],
     // The words that name blocks, generics and ports, from place 4 on.
     pub words: &'a [u32],
     // Where among them each block's heading begins.
     pub firsts: &'a [usize],
-    // The words that name blocks.
-    pub titles: &'a [u32],
     pub ghost rows: { Rows words.now firsts.now },
-    pub ghost few: { length titles.now ≤ 64 },
 }
 
 // What a call names: a primitive by its kind, or a block by its number.

@@ -142,26 +142,37 @@ impl Scope<'_> {
     }
 }
 
+// The blocks of a tape.
+#[derive(Clone, Copy)]
+struct Blocks<'a, 'h> {
+    // The text that spells their names.
+    text: &'a [u8],
+    headings: Headings<'h>,
+    // The words that name them.
+    titles: &'a [u32],
+    ghost few: { length titles.now ≤ 64 },
+}
+
 // What a call's name stands for: a primitive, or else a block.
-fn callee(headings: &Headings, word: u32) -> Result<Callee, Refusal>
-    ensures { Calls (callee_in headings.now.text.now headings.now.titles.now word) result }
+fn callee(blocks: &Blocks, word: u32) -> Result<Callee, Refusal>
+    ensures { Calls (callee_in blocks.now.text.now blocks.now.titles.now word) result }
 {
-    let name = spellings::letters(headings.text, word);
+    let name = spellings::letters(blocks.text, word);
     if let Some(kind) = spellings::primitive(name) {
         return Ok(Callee::Primitive(kind));
     }
-    match spellings::find(headings.text, headings.titles, name) {
+    match spellings::find(blocks.text, blocks.titles, name) {
         Some(block) => Ok(Callee::Block(block)),
         None => Err(refusal(Reason::WrongName, word)),
     }
 }
 
 // What a call's name stands for, if the words after it give what its heading wants, in number.
-fn as_callee(headings: &Headings, word: u32, rest: &[u32]) -> Result<Callee, Refusal>
-    ensures { Calls (call_step headings.now.text.now headings.now.words.now headings.now.firsts.now headings.now.titles.now word rest.now) result }
+fn as_callee(blocks: &Blocks, word: u32, rest: &[u32]) -> Result<Callee, Refusal>
+    ensures { Calls (call_step blocks.now.text.now blocks.now.headings.words.now blocks.now.headings.firsts.now blocks.now.titles.now word rest.now) result }
 {
-    let callee = callee(headings, word)?;
-    if !headings::counts_fit(rest, headings.heading_of(callee)) {
+    let callee = callee(blocks, word)?;
+    if !headings::counts_fit(rest, blocks.headings.heading_of(callee)) {
         return Err(refusal(Reason::WrongShape, word));
     }
     Ok(callee)
@@ -185,11 +196,11 @@ fn is_argument(word: u32) -> bool
 }
 
 // A call's name: its arguments are for its ports.
-fn on_callee(headings: &Headings, word: u32, rest: &[u32], spot: Spot) -> Result<Step, Refusal>
-    ensures { (scope until : List ℕ) → Says (after (call_step headings.now.text.now headings.now.words.now headings.now.firsts.now headings.now.titles.now word rest.now) (λ c. (called (heading_of headings.now.words.now headings.now.firsts.now c) (state_of scope until spot) word c))) scope until result }
+fn on_callee(blocks: &Blocks, word: u32, rest: &[u32], spot: Spot) -> Result<Step, Refusal>
+    ensures { (scope until : List ℕ) → Says (after (call_step blocks.now.text.now blocks.now.headings.words.now blocks.now.headings.firsts.now blocks.now.titles.now word rest.now) (λ c. (called (heading_of blocks.now.headings.words.now blocks.now.headings.firsts.now c) (state_of scope until spot) word c))) scope until result }
 {
-    let callee = as_callee(headings, word, rest)?;
-    let heading = headings.heading_of(callee);
+    let callee = as_callee(blocks, word, rest)?;
+    let heading = blocks.headings.heading_of(callee);
     Ok(Step {
         word: with_value(word, spellings::place_of(word) * 128 + callee.code()),
         spot: Spot {
@@ -200,15 +211,11 @@ fn on_callee(headings: &Headings, word: u32, rest: &[u32], spot: Spot) -> Result
 }
 
 // A block's name: none of its own names is declared yet.
-fn on_block(headings: &Headings, word: u32, spot: Spot) -> Result<Step, Refusal>
-    ensures { (scope until : List ℕ) → Says (after (block_step headings.now.text.now (take spot.blocks headings.now.titles.now) word) (λ _. (begun (state_of scope until spot) word))) scope until result }
+fn on_block(blocks: &Blocks, word: u32, spot: Spot) -> Result<Step, Refusal>
+    ensures { (scope until : List ℕ) → Says (after (block_step blocks.now.text.now (take spot.blocks blocks.now.titles.now) word) (λ _. (begun (state_of scope until spot) word))) scope until result }
 {
-    let before = front(headings.titles, spot.blocks);
-    if spellings::taken(
-        headings.text,
-        before,
-        spellings::letters(headings.text, word),
-    ) {
+    let before = front(blocks.titles, spot.blocks);
+    if spellings::taken(blocks.text, before, spellings::letters(blocks.text, word)) {
         return Err(refusal(Reason::DeclaredTwice, word));
     }
     Ok(Step {
@@ -242,7 +249,7 @@ fn on_declared(text: &[u8], scope: &mut [u32], word: u32, spot: Spot) -> Result<
 
 // One word of the tape, at a place.
 fn take_word(
-    headings: &Headings,
+    blocks: &Blocks,
     tape: &[u32],
     at: usize,
     scope: &mut [u32],
@@ -250,12 +257,12 @@ fn take_word(
     spot: Spot,
 ) -> Result<Step, Refusal>
     requires { (at < length tape.now) × (length scope.old ≤ 48) × (length until.old ≤ 48) }
-    ensures { Says (turn headings.now.text.now headings.now.words.now headings.now.firsts.now headings.now.titles.now at (state_of scope.old until.old spot) (get_or tape.now at 0) (drop (at + 1) tape.now)) scope.new until.new result }
+    ensures { Says (turn blocks.now.text.now blocks.now.headings.words.now blocks.now.headings.firsts.now blocks.now.titles.now at (state_of scope.old until.old spot) (get_or tape.now at 0) (drop (at + 1) tape.now)) scope.new until.new result }
 {
     let word = tape[at];
     let before = front(scope, spot.count);
     let names = Scope {
-        text: headings.text,
+        text: blocks.text,
         words: before,
         until,
     };
@@ -263,10 +270,10 @@ fn take_word(
         return names.on_name(at, word, spot);
     }
     if tape::is(word, Kind::Call) {
-        return on_callee(headings, word, &tape[at + 1..], spot);
+        return on_callee(blocks, word, &tape[at + 1..], spot);
     }
     if is_argument(word) {
-        let port = headings.word(spot.want);
+        let port = blocks.headings.word(spot.want);
         return names.on_argument(port, word, spot);
     }
     if tape::is(word, Kind::Index) {
@@ -277,23 +284,23 @@ fn take_word(
         return Ok(Step { word, spot });
     }
     if tape::is(word, Kind::Block) {
-        return on_block(headings, word, spot);
+        return on_block(blocks, word, spot);
     }
     if Kind::Block.code() < tape::kind_of(word) {
-        return on_declared(headings.text, scope, word, spot);
+        return on_declared(blocks.text, scope, word, spot);
     }
     Ok(Step { word, spot })
 }
 
 // Sweeps over the words of a tape.
 fn sweep_words(
-    headings: &Headings,
+    blocks: &Blocks,
     tape: &mut [u32],
     scope: &mut [u32],
     until: &mut [usize],
 ) -> Result<(), Refusal>
     requires { (length scope.old ≤ 48) × (length until.old ≤ 48) }
-    ensures { Swept (sweep headings.now.text.now headings.now.words.now headings.now.firsts.now headings.now.titles.now 0 (start scope.old until.old) tape.old) tape.new result }
+    ensures { Swept (sweep blocks.now.text.now blocks.now.headings.words.now blocks.now.headings.firsts.now blocks.now.titles.now 0 (start scope.old until.old) tape.old) tape.new result }
 {
     let mut spot = Spot {
         count: 0,
@@ -302,7 +309,7 @@ fn sweep_words(
         blocks: 0,
     };
     for at in 0..tape.len() {
-        let step = take_word(headings, tape, at, scope, until, spot)?;
+        let step = take_word(blocks, tape, at, scope, until, spot)?;
         tape[at] = step.word;
         spot = step.spot;
     }
@@ -310,17 +317,17 @@ fn sweep_words(
 }
 
 // 9: main is there, and has no generics.
-fn main_block(headings: &Headings) -> Result<usize, Refusal>
-    ensures { Answers (main_in headings.now.text.now headings.now.words.now headings.now.firsts.now headings.now.titles.now) result }
+fn main_block(blocks: &Blocks) -> Result<usize, Refusal>
+    ensures { Answers (main_in blocks.now.text.now blocks.now.headings.words.now blocks.now.headings.firsts.now blocks.now.titles.now) result }
 {
-    let titles = headings.titles;
-    let Some(main) = spellings::find(headings.text, titles, b"main") else {
+    let titles = blocks.titles;
+    let Some(main) = spellings::find(blocks.text, titles, b"main") else {
         return Err(Refusal {
             reason: Reason::NoMain,
-            place: headings.text.len(),
+            place: blocks.text.len(),
         });
     };
-    if headings.has_generics(main) {
+    if blocks.headings.has_generics(main) {
         return Err(refusal(Reason::NoMain, titles[main]));
     }
     Ok(main)
@@ -337,13 +344,16 @@ pub fn resolve(text: &[u8], tape: &mut [u32], end: usize) -> Result<usize, Refus
     let words = &mut tape[..end];
     headings::gather_heads(words, &mut heads);
     headings::gather_firsts(words, &mut firsts);
-    let blocks = headings::gather_titles(words, &mut titles);
+    let count = headings::gather_titles(words, &mut titles);
     let headings = Headings {
-        text,
         words: &heads,
         firsts: &firsts,
-        titles: &titles[..blocks],
     };
-    sweep_words(&headings, words, &mut [0; 48], &mut [0; 48])?;
-    main_block(&headings)
+    let blocks = Blocks {
+        text,
+        headings,
+        titles: &titles[..count],
+    };
+    sweep_words(&blocks, words, &mut [0; 48], &mut [0; 48])?;
+    main_block(&blocks)
 }
