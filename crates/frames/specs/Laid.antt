@@ -1,5 +1,5 @@
 -- Things stored one after another; what lies past the end of the list is lost. Assumes nothing.
-use Rattle.std.specs.Prelude.{◌≡◌, get_or, set, replicate}
+use Rattle.std.specs.Prelude.{◌≡◌, get_or, set, replicate, map}
 use Rattle.std.proofs.Math.Path.{refl, ap}
 use Rattle.std.proofs.Common.{sym, ◌∙◌, subst, append_assoc, add-one, take-append-drop, take-suc-set, drop-set-lt}
 use Prim.Native.Nat.{ℕ, zero, suc, ◌+◌, ◌≤◌, ◌<◌}
@@ -8,7 +8,7 @@ use native.Mathlib.Omega.{arith}
 use mathlib.Core.List.{List, [], ◌∷◌, ◌++◌}
 use Rattle.std.proofs.Math.ListN.{length, length-set, take, drop}
 use Rattle.std.proofs.lemmas.List.{length-replicate, get_or-replicate, set-set, set_comm}
-use Rattle.std.proofs.Math.Seq.{get_or-set_same, get_or-set_other}
+use Rattle.std.proofs.Math.Seq.{get_or-set_same, get_or-set_other, map-set}
 
 module _ {A : Type 0} where
   unfoldable pub laid : List A → ℕ → List A → List A
@@ -71,7 +71,7 @@ module _ {A : Type 0} where
   set-zero (suc n) z zero = refl
   set-zero (suc n) z (suc i) = ap (λ l. z ∷ l) (set-zero n z i)
 
-  laid-zeros : (m n to : ℕ) (z : A) → laid (replicate n z) to (replicate m z) ≡ replicate n z
+  pub laid-zeros : (m n to : ℕ) (z : A) → laid (replicate n z) to (replicate m z) ≡ replicate n z
   unfolding laid
   laid-zeros zero n to z = refl
   laid-zeros (suc m) n to z = ap (λ l. laid l (to + 1) (replicate m z)) (set-zero n z to) ∙ laid-zeros m n (to + 1) z
@@ -105,3 +105,9 @@ module _ {A : Type 0} where
       first : (xs t : List A) (to i : ℕ) (y : A) → i < to → laid (set t i y) to xs ≡ set (laid t to xs) i y
       first [] t to i y h = refl
       first (x ∷ xs) t to i y h = ap (λ l. laid l (to + 1) xs) (set_comm t i to y x (λ q. omega (arith, q))) ∙ first xs (set t to x) (to + 1) i y (omega arith)
+
+-- one column of what is laid
+pub map-laid : {A B : Type 0} (g : A → B) (xs t : List A) (to : ℕ) → map g (laid t to xs) ≡ laid (map g t) to (map g xs)
+unfolding laid
+map-laid g [] t to = refl
+map-laid g (x ∷ xs) t to = map-laid g xs (set t to x) (to + 1) ∙ ap (λ l. laid l (to + 1) (map g xs)) (map-set g t to x)

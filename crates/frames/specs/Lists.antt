@@ -1,5 +1,5 @@
 -- The lists of a call on the tape: generics, and arguments. Assumes nothing.
-use Rattle.std.specs.Prelude.{◌≡◌, refl, ℕ, ◌+◌, ◌≤◌, ◌<◌, true, false, List, [], ◌∷◌, ◌++◌, map, length, get_or, set, ℤ, pos, Result, Ok, Err}
+use Rattle.std.specs.Prelude.{◌≡◌, refl, ℕ, ◌+◌, ◌≤◌, ◌<◌, true, false, List, [], ◌∷◌, ◌++◌, map, length, get_or, set, ℤ, Result, Ok, Err}
 use Rattle.std.proofs.Math.Path.{sym}
 use Rattle.std.proofs.Common.{ap, ◌∙◌, arith}
 use Rattle.std.proofs.lemmas.List.{map-append, length-map}
@@ -17,7 +17,6 @@ use Rattle.values.specs.Factors.{Grouped}
 use Rattle.values.specs.Here.{Here}
 use Rattle.values.specs.Sizes.{opens, stops_first, stops-kind}
 use Rattle.frames.specs.declared.Many.{Many}
-use Rattle.frames.specs.declared.Vector.{Vector}
 use Rattle.rules.specs.declared.Reason.{Reason}
 use Rattle.rules.specs.Reasons.{number as number_of}
 use Rattle.frames.specs.Laid.{laid, laid-snoc}
@@ -149,36 +148,40 @@ unfolding Drawn
 drawn-more [] r d h = (h, tt)
 drawn-more (x ∷ rs) r d h = (d.0, drawn-more rs r d.1 h)
 
--- wires that are given, as the code holds them
-abbrev pub given_of : Range → Vector
-given_of r = record { base = r.base; len = r.len; low = pos 0 }
-
 -- all wires were found, and stored from `to` on
-pub record Draws (rs : List Range) (n to k m : ℕ) (vs₀ vs : List Vector) : Type 0 where
+pub record Draws (rs : List Range) (n to k m : ℕ) (b₀ l₀ b l : List ℕ) : Type 0 where
   pub place : m ≡ n
   pub count : k ≡ to + length rs
-  pub names : vs ≡ laid vs₀ to (map given_of rs)
+  pub base : b ≡ laid b₀ to (map (λ r. r.base) rs)
+  pub len : l ≡ laid l₀ to (map (λ r. r.len) rs)
   pub drawn : Drawn rs
 
-unfoldable pub Resolves : Out (List Range) → ℕ → ℕ → List Vector → Result Many Reason → List Vector → Type 0
-Resolves o n to vs₀ (Ok r) vs = (rs : List Range) × (o ≡ ok rs) × Draws rs n to r.filled r.next vs₀ vs
-Resolves o n to vs₀ (Err e) vs = o ≡ refuse (number_of e) 0
+unfoldable pub Resolves : Out (List Range) → ℕ → ℕ → List ℕ → List ℕ → Result Many Reason → List ℕ → List ℕ → Type 0
+Resolves o n to b₀ l₀ (Ok r) b l = (rs : List Range) × (o ≡ ok rs) × Draws rs n to r.filled r.next b₀ l₀ b l
+Resolves o n to b₀ l₀ (Err e) b l = o ≡ refuse (number_of e) 0
+
+abbrev pub base_r : Range → ℕ
+base_r r = r.base
+
+abbrev pub len_r : Range → ℕ
+len_r r = r.len
 
 -- the loop over arguments: k is the next place to fill
-pub record Drawing (ρ : Env) (σ : Names Range) (t : List ℕ) (at end to : ℕ) (ins outs : List (Arg ℕ)) (vs₀ : List Vector) (i k : ℕ) (vs : List Vector) : Type 0 where
+pub record Drawing (ρ : Env) (σ : Names Range) (t : List ℕ) (at end to : ℕ) (ins outs : List (Arg ℕ)) (b₀ l₀ : List ℕ) (i k : ℕ) (b l : List ℕ) : Type 0 where
   pub found : List Range
   pub many : ℕ
   pub going : Going (resolved ρ σ) tagged_w (Given (length σ)) t at end 4 5 (tagged ins outs) i many found
   pub count : k ≡ to + many
-  pub names : vs ≡ laid vs₀ to (map given_of found)
+  pub base : b ≡ laid b₀ to (map base_r found)
+  pub len : l ≡ laid l₀ to (map len_r found)
   pub drawn : Drawn found
 
-module _ {ρ : Env} {σ : Names Range} {t : List ℕ} {at end to : ℕ} {ins outs : List (Arg ℕ)} {vs₀ : List Vector} where
-  pub drawing-begin : HereArgs t at end (length σ) ins outs → Drawing ρ σ t at end to ins outs vs₀ at to vs₀
+module _ {ρ : Env} {σ : Names Range} {t : List ℕ} {at end to : ℕ} {ins outs : List (Arg ℕ)} {b₀ l₀ : List ℕ} where
+  pub drawing-begin : HereArgs t at end (length σ) ins outs → Drawing ρ σ t at end to ins outs b₀ l₀ at to b₀ l₀
   unfolding laid Drawn
-  drawing-begin h = record { found = []; many = 0; going = begin h.listed h.given; count = omega arith; names = refl; drawn = tt }
+  drawing-begin h = record { found = []; many = 0; going = begin h.listed h.given; count = omega arith; base = refl; len = refl; drawn = tt }
 
-  module _ {i k : ℕ} {vs : List Vector} (d : Drawing ρ σ t at end to ins outs vs₀ i k vs) where
+  module _ {i k : ℕ} {b l : List ℕ} (d : Drawing ρ σ t at end to ins outs b₀ l₀ i k b l) where
     pub drawing-next : among_of t i end 4 5 ≡ true → Next tagged_w (Given (length σ)) t i end d.going.left
     drawing-next e = next starts-args d.going e
 
@@ -186,24 +189,25 @@ module _ {ρ : Env} {σ : Names Range} {t : List ℕ} {at end to : ℕ} {ins out
         → resolves Wires ρ σ (ins ++ outs) ≡ refuse m p
     drawing-stop n e = sym (runs-args ρ σ ins outs) ∙ stop starts-args d.going n e
 
-    pub drawing-on : (n : Next tagged_w (Given (length σ)) t i end d.going.left) {x y z j : ℕ} {vs' : List Vector} → resolved ρ σ n.item ≡ ok (record { base = x; len = y }) → x + y ≤ 1536
-        → z ≡ i + length (tagged_w n.item) → vs' ≡ set vs k (record { base = x; len = y; low = pos 0 }) → j ≡ k + 1 → Drawing ρ σ t at end to ins outs vs₀ z j vs'
-    drawing-on n {x} {y} {z} {j} e f q p c =
+    pub drawing-on : (n : Next tagged_w (Given (length σ)) t i end d.going.left) {x y z j : ℕ} {b' l' : List ℕ} → resolved ρ σ n.item ≡ ok (record { base = x; len = y }) → x + y ≤ 1536
+        → z ≡ i + length (tagged_w n.item) → b' ≡ set b k x → l' ≡ set l k y → j ≡ k + 1 → Drawing ρ σ t at end to ins outs b₀ l₀ z j b' l'
+    drawing-on n {x} {y} {z} {j} e f q p r c =
         let s : Range = record { base = x; len = y } in
         record {
           found = d.found ++ (s ∷ []);
           many = d.many + 1;
           going = rw q (onward starts-args d.going n e);
           count = omega (arith, c, d.count);
-          names = stored given_of vs₀ to d.found s d.names (omega (arith, d.count, d.going.count)) p;
+          base = stored base_r b₀ to d.found s d.base (omega (arith, d.count, d.going.count)) p;
+          len = stored len_r l₀ to d.found s d.len (omega (arith, d.count, d.going.count)) r;
           drawn = drawn-more d.found s d.drawn f;
         }
 
-    pub drawing-end : among_of t i end 4 5 ≡ false → Resolves (resolves Wires ρ σ (ins ++ outs)) (at + length (list_w tagged_w (tagged ins outs))) to vs₀ (Ok (record { filled = k; next = i })) vs
+    pub drawing-end : among_of t i end 4 5 ≡ false → Resolves (resolves Wires ρ σ (ins ++ outs)) (at + length (list_w tagged_w (tagged ins outs))) to b₀ l₀ (Ok (record { filled = k; next = i })) b l
     unfolding Resolves
     drawing-end e =
         let f = finish starts-args d.going e in
-        (d.found, sym (runs-args ρ σ ins outs) ∙ f.0, record { place = f.1; count = omega (arith, d.count, d.going.count); names = d.names; drawn = d.drawn })
+        (d.found, sym (runs-args ρ σ ins outs) ∙ f.0, record { place = f.1; count = omega (arith, d.count, d.going.count); base = d.base; len = d.len; drawn = d.drawn })
 
     pub drawing-room : (i < 33554432) × (k ≤ to + i)
     drawing-room = (omega (arith, d.going.listed.within, d.going.listed.short), omega (arith, d.count, d.going.from))

@@ -1,7 +1,7 @@
 -- Declarations on the tape: ports tied to the wires given, and names with fresh wires. Assumes nothing.
 use Rattle.std.specs.Prelude.{◌≡◌, refl, ℕ, suc, ◌+◌, ◌≤◌, ◌<◌, Bool, true, false, List, [], ◌∷◌, ◌++◌, map, length, get_or, set, ℤ, eqb, Ok}
 use Rattle.std.proofs.Math.Path.{sym}
-use Rattle.std.proofs.Common.{ap, ◌∙◌, subst, arith, eq-eqb, ne_eqb, length-set, get_or-set_other}
+use Rattle.std.proofs.Common.{ap, ◌∙◌, subst, arith, eq-eqb, ne_eqb}
 use Rattle.rules.specs.Outcome.{Out, ok, refuse, ◌>>=◌, need}
 use Rattle.rules.specs.Syntax.{Sort, wire, vector, num, Decl}
 use Rattle.rules.specs.Values.{Env, Shape, shape}
@@ -13,12 +13,11 @@ use Rattle.tape.specs.Encoding.{list_w, sort_w, decl_w}
 use Rattle.tape.specs.Resolved.{slot_w}
 use Rattle.tape.specs.Lies.{Lies, lies-first}
 use Rattle.values.specs.Sizes.{GroupedSort, HereSort, stops-kind}
-use Rattle.frames.specs.declared.Vector.{Vector}
 use Rattle.frames.specs.Laid.{laid}
 use Rattle.frames.specs.Rows.{among_of, Alone, Listed, Starts, Starting}
 use Rattle.frames.specs.Runs.{runs, Going, Next, begin, next, stop, onward, finish}
-use Rattle.frames.specs.Stands.{vector_of, no_vector}
-use Rattle.frames.specs.Lists.{stored, Gathers, given_of}
+use Rattle.frames.specs.Stands.{low_of}
+use Rattle.frames.specs.Lists.{stored, Gathers, len_r}
 
 -- a declaration of a kind
 pub record Declared (kind : ℕ) (d : Decl ℕ) : Type 0 where
@@ -103,34 +102,32 @@ pub record HerePorts (t : List ℕ) (at end : ℕ) (xs : List Port) : Type 0 whe
   pub tied : All Tied xs
   pub listed : Listed t at end 11 12 port_w xs
 
--- the wires given for each, from place `to` on
-pub record Offered (to : ℕ) (vs : List Vector) (xs : List Port) : Type 0 where
-  pub full : length vs ≡ 48
+-- how many wires are given for each, from place `to` on
+pub record Offered (to : ℕ) (l : List ℕ) (xs : List Port) : Type 0 where
+  pub full : length l ≡ 48
   pub few : to + length xs ≤ 48
-  pub is : (j : ℕ) → j < length xs → get_or vs (to + j) no_vector ≡ get_or (map given_of (given_in xs)) j no_vector
+  pub is : (j : ℕ) → j < length xs → get_or l (to + j) 0 ≡ get_or (map len_r (given_in xs)) j 0
 
-pub record WrittenPorts (t : List ℕ) (at end to : ℕ) (vs : List Vector) : Type 0 where
+pub record WrittenPorts (t : List ℕ) (at end to : ℕ) (l : List ℕ) : Type 0 where
   pub ports : List Port
   pub here : HerePorts t at end ports
-  pub offered : Offered to vs ports
+  pub offered : Offered to l ports
 
 -- ---- the loop over ports: k is the next place to fill
 
-pub record Tying (ρ : Env) (t : List ℕ) (at end to : ℕ) (xs : List Port) (vs₀ : List Vector) (i k : ℕ) (vs : List Vector) : Type 0 where
+pub record Tying (ρ : Env) (t : List ℕ) (at end to : ℕ) (xs : List Port) (l : List ℕ) (o₀ : List ℤ) (i k : ℕ) (o : List ℤ) : Type 0 where
   pub found : Names Range
   pub many : ℕ
   pub going : Going (tie_one ρ) port_w Tied t at end 11 12 xs i many found
   pub count : k ≡ to + many
-  pub names : vs ≡ laid vs₀ to (map vector_of found)
-  pub offered : Offered k vs going.left
+  pub low : o ≡ laid o₀ to (map low_of found)
+  pub offered : Offered k l going.left
 
-offered-rest : {k : ℕ} {vs : List Vector} {x : Port} {xs : List Port} (v : Vector) → Offered k vs (x ∷ xs) → Offered (k + 1) (set vs k v) xs
-offered-rest {k} {vs} v o = record {
-  full = length-set vs k v ∙ o.full;
+offered-rest : {k : ℕ} {l : List ℕ} {x : Port} {xs : List Port} → Offered k l (x ∷ xs) → Offered (k + 1) l xs
+offered-rest {k} {l} o = record {
+  full = o.full;
   few = omega (arith, o.few);
-  is = λ j h.
-      let e : k + 1 + j ≡ k + suc j = omega arith in
-      get_or-set_other vs k (k + 1 + j) v no_vector (λ q. omega (arith, q)) ∙ ap (λ n. get_or vs n no_vector) e ∙ o.is (suc j) (omega arith);
+  is = λ j h. let e : k + 1 + j ≡ k + suc j = omega arith in ap (λ n. get_or l n 0) e ∙ o.is (suc j) (omega arith);
 }
 
 tie-refused : (ρ : Env) (x : Port) {m : ℕ} → shape ρ x.decl.sort ≡ refuse m 0 → tie_one ρ x ≡ refuse m 0
@@ -148,24 +145,21 @@ tie-ok ρ x {l} {n} e h = rw (e, eq-eqb n x.given.len h)
 abbrev pub tie_all : Env → List Port → Out (Names Range)
 tie_all ρ xs = tie Wires ρ (decls_in xs) (given_in xs)
 
-module _ {ρ : Env} {t : List ℕ} {at end to : ℕ} {xs : List Port} {vs₀ : List Vector} where
-  pub tying-begin : HerePorts t at end xs → Offered to vs₀ xs → Tying ρ t at end to xs vs₀ at to vs₀
+module _ {ρ : Env} {t : List ℕ} {at end to : ℕ} {xs : List Port} {l : List ℕ} {o₀ : List ℤ} where
+  pub tying-begin : HerePorts t at end xs → Offered to l xs → Tying ρ t at end to xs l o₀ at to o₀
   unfolding laid begin
-  tying-begin h o = record { found = []; many = 0; going = begin h.listed h.tied; count = omega arith; names = refl; offered = o }
+  tying-begin h o = record { found = []; many = 0; going = begin h.listed h.tied; count = omega arith; low = refl; offered = o }
 
-  module _ {i k : ℕ} {vs : List Vector} (d : Tying ρ t at end to xs vs₀ i k vs) where
+  module _ {i k : ℕ} {o : List ℤ} (d : Tying ρ t at end to xs l o₀ i k o) where
     pub tying-next : among_of t i end 11 12 ≡ true → Next port_w Tied t i end d.going.left
     tying-next e = next starts-ports d.going e
 
     module _ (n : Next port_w Tied t i end d.going.left) where
-      here : Offered k vs (n.item ∷ n.tail)
-      here = subst (Offered k vs) n.is d.offered
+      here : Offered k l (n.item ∷ n.tail)
+      here = subst (Offered k l) n.is d.offered
 
-      tying-given : get_or vs k no_vector ≡ given_of n.item.given
-      tying-given = let e : k + 0 ≡ k = omega arith in subst (λ j. get_or vs j no_vector ≡ given_of n.item.given) e (here.is 0 (omega arith))
-
-      tying-len : (get_or vs k no_vector).len ≡ n.item.given.len
-      tying-len = ap (λ v. v.len) tying-given
+      pub tying-given : get_or l k 0 ≡ n.item.given.len
+      tying-given = let e : k + 0 ≡ k = omega arith in subst (λ j. get_or l j 0 ≡ n.item.given.len) e (here.is 0 (omega arith))
 
       pub tying-place : k < 48
       tying-place = omega (arith, here.few)
@@ -173,27 +167,25 @@ module _ {ρ : Env} {t : List ℕ} {at end to : ℕ} {xs : List Port} {vs₀ : L
       pub tying-refused : {m : ℕ} → shape ρ n.item.decl.sort ≡ refuse m 0 → tie_all ρ xs ≡ refuse m 0
       tying-refused e = sym (runs-tie ρ xs) ∙ stop starts-ports d.going n (tie-refused ρ n.item e)
 
-      pub tying-apart : {x : ℤ} {m : ℕ} → shape ρ n.item.decl.sort ≡ ok (record { low = x; size = m }) → (m ≡ (get_or vs k no_vector).len → ⊥) → tie_all ρ xs ≡ refuse 13 0
-      tying-apart e f = sym (runs-tie ρ xs) ∙ stop starts-ports d.going n (tie-apart ρ n.item e (λ q. f (q ∙ sym tying-len)))
+      pub tying-apart : {x : ℤ} {m : ℕ} → shape ρ n.item.decl.sort ≡ ok (record { low = x; size = m }) → (m ≡ get_or l k 0 → ⊥) → tie_all ρ xs ≡ refuse 13 0
+      tying-apart e f = sym (runs-tie ρ xs) ∙ stop starts-ports d.going n (tie-apart ρ n.item e (λ q. f (q ∙ sym tying-given)))
 
-      pub tying-on : {x : ℤ} {m z j : ℕ} {vs' : List Vector} → shape ρ n.item.decl.sort ≡ ok (record { low = x; size = m }) → m ≡ (get_or vs k no_vector).len
-          → z ≡ i + length (port_w n.item) → vs' ≡ set vs k (record { base = (get_or vs k no_vector).base; len = (get_or vs k no_vector).len; low = x }) → j ≡ k + 1
-          → Tying ρ t at end to xs vs₀ z j vs'
+      pub tying-on : {x : ℤ} {m z j : ℕ} {o' : List ℤ} → shape ρ n.item.decl.sort ≡ ok (record { low = x; size = m }) → m ≡ get_or l k 0
+          → z ≡ i + length (port_w n.item) → o' ≡ set o k x → j ≡ k + 1 → Tying ρ t at end to xs l o₀ z j o'
       unfolding onward
-      tying-on {x} {m} {z} {j} {vs'} e f q p c =
+      tying-on {x} {m} {z} {j} e f q p c =
           let s : Sig Range = record { low = x; cells = n.item.given } in
-          let w : vs' ≡ set vs k (vector_of s) = p ∙ ap (λ (v : Vector). set vs k (record { base = v.base; len = v.len; low = x })) tying-given in
           rw (q, c) (record {
             found = d.found ++ (s ∷ []);
             many = d.many + 1;
-            going = onward starts-ports d.going n (tie-ok ρ n.item e (f ∙ tying-len));
+            going = onward starts-ports d.going n (tie-ok ρ n.item e (f ∙ tying-given));
             count = omega (arith, d.count);
-            names = stored vector_of vs₀ to d.found s d.names (omega (arith, d.count, d.going.count)) w;
-            offered = rw w (offered-rest (vector_of s) here);
+            low = stored low_of o₀ to d.found s d.low (omega (arith, d.count, d.going.count)) p;
+            offered = offered-rest here;
           })
 
-    pub tying-end : among_of t i end 11 12 ≡ false → Gathers vector_of (tie_all ρ xs) (at + length (list_w port_w xs)) to vs₀ (Ok (record { filled = k; next = i })) vs
+    pub tying-end : among_of t i end 11 12 ≡ false → Gathers low_of (tie_all ρ xs) (at + length (list_w port_w xs)) to o₀ (Ok (record { filled = k; next = i })) o
     unfolding Gathers
     tying-end e =
         let f = finish starts-ports d.going e in
-        (d.found, sym (runs-tie ρ xs) ∙ f.0, f.1, omega (arith, d.count, d.going.count), d.names)
+        (d.found, sym (runs-tie ρ xs) ∙ f.0, f.1, omega (arith, d.count, d.going.count), d.low)

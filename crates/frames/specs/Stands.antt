@@ -1,6 +1,6 @@
 -- What the code's frame stands for: an environment, and the wires of each name. Assumes nothing.
 use Rattle.std.specs.Prelude.{◌≡◌, refl, ℕ, zero, suc, ◌+◌, ◌≤◌, ◌<◌, List, [], ◌∷◌, map, length, get_or, ℤ, pos}
-use Rattle.std.proofs.Common.{ap, arith}
+use Rattle.std.proofs.Common.{ap, ◌∙◌, arith}
 use Rattle.rules.specs.Outcome.{ok, nth}
 use Rattle.rules.specs.Syntax.{Exp, number, name, neg, group, both, Sort, wire, vector, num}
 use Rattle.rules.specs.Values.{Env, generics, ranged, eval, shape}
@@ -44,6 +44,9 @@ base_of x = x.cells.base
 abbrev pub len_of : Sig Range → ℕ
 len_of x = x.cells.len
 
+abbrev pub low_of : Sig Range → ℤ
+low_of x = x.low
+
 -- a name's wires, as the code holds them
 abbrev pub vector_of : Sig Range → Vector
 vector_of x = record { base = x.cells.base; len = x.cells.len; low = x.low }
@@ -51,6 +54,34 @@ vector_of x = record { base = x.cells.base; len = x.cells.len; low = x.low }
 -- what a place holds that is not filled
 abbrev pub no_vector : Vector
 no_vector = record { base = 0; len = 0; low = pos 0 }
+
+-- the columns of what the code holds
+abbrev pub bases : List Vector → List ℕ
+bases vs = map (λ (v : Vector). v.base) vs
+
+abbrev pub lens : List Vector → List ℕ
+lens vs = map (λ (v : Vector). v.len) vs
+
+abbrev pub lows : List Vector → List ℤ
+lows vs = map (λ (v : Vector). v.low) vs
+
+same : (v w : Vector) → v.base ≡ w.base → v.len ≡ w.len → v.low ≡ w.low → v ≡ w
+same v w x y z = ap (λ n. record { base = n; len = v.len; low = v.low }) x ∙ (ap (λ n. record { base = w.base; len = n; low = v.low }) y ∙ ap (λ n. record { base = w.base; len = w.len; low = n }) z)
+
+-- rows are the same where their columns are
+pub rows-same : (vs ws : List Vector) → bases vs ≡ bases ws → lens vs ≡ lens ws → lows vs ≡ lows ws → vs ≡ ws
+rows-same [] [] e f g = refl
+rows-same [] (w ∷ ws) e f g = cc
+rows-same (v ∷ vs) [] e f g = cc
+rows-same (v ∷ vs) (w ∷ ws) e f g =
+    let x : v.base ≡ w.base = cc in
+    let y : v.len ≡ w.len = cc in
+    let z : v.low ≡ w.low = cc in
+    let b : bases vs ≡ bases ws = cc in
+    let l : lens vs ≡ lens ws = cc in
+    let o : lows vs ≡ lows ws = cc in
+    let h : v ≡ w = same v w x y z in
+    rw (h, rows-same vs ws b l o) refl
 
 abbrev pub sig_of : Vector → Sig Range
 sig_of v = record { low = v.low; cells = record { base = v.base; len = v.len } }

@@ -1,7 +1,7 @@
 // What the names of one use of a block stand for: wires, and values.
 #![tactic(auto)]
 
-ghost use Rattle.std.specs.Prelude.{◌≡◌, ℕ, ◌+◌, ◌*◌, ◌-◌, ◌<◌, ◌≤◌, List, ◌++◌, length, get_or, replicate, pos};
+ghost use Rattle.std.specs.Prelude.{◌≡◌, ℕ, ◌+◌, ◌*◌, ◌-◌, ◌<◌, ◌≤◌, List, ◌++◌, length, get_or, set, replicate, pos};
 ghost use Rattle.rules.specs.Syntax.{Exp, Arg, Decl};
 ghost use Rattle.rules.specs.Values.{Env, evals, bound};
 ghost use Rattle.rules.specs.Frames.{Frame as Names, resolve, resolves};
@@ -9,7 +9,7 @@ ghost use Rattle.rules.specs.Unfold.{Range, Wires, State, declare};
 ghost use Rattle.tape.specs.Kinds.{code};
 ghost use Rattle.tape.specs.Encoding.{arg_w, list_w};
 ghost use Rattle.tape.specs.Resolved.{slot_w};
-ghost use Rattle.frames.specs.Stands.{Stands, Knows, no_vector, vector_of};
+ghost use Rattle.frames.specs.Stands.{Stands, Knows, no_vector, low_of, bases, lens, lows};
 ghost use Rattle.frames.specs.Ports.{Port, port_w, HerePorts, WrittenPorts, Offered, tie_all};
 ghost use Rattle.frames.specs.Rows.{among_of};
 ghost use Rattle.frames.specs.Lists.{value_w, HereValues, WrittenValues, Gathers, tagged_w, tagged, HereArgs, WrittenArgs, Resolves};
@@ -149,6 +149,20 @@ pub fn evaluate(
     Ok(Many { filled, next })
 }
 
+// The wires found, at place i; the low that stands there stays, and past the last place nothing is kept.
+fn put(names: &mut [Vector; 48], i: usize, found: Found)
+    requires { length names.old ≡ 48 }
+    ensures { names.new ≡ set names.old i (record { base = found.base; len = found.len; low = (get_or names.old i no_vector).low }) }
+{
+    if i < 48 {
+        names[i] = Vector {
+            base: found.base,
+            len: found.len,
+            ..names[i]
+        };
+    }
+}
+
 // The wires of the arguments from `at` on, inputs and then outputs, stored from place `to` on.
 pub fn arguments(
     tape: &[u32],
@@ -160,20 +174,16 @@ pub fn arguments(
 ) -> Result<Many, Reason>
     requires written_args { WrittenArgs tape.now at end frame.now }
     requires names_len { (length names.old ≡ 48) × (to ≤ 48) }
-    ensures { (ρ : Env) (σ : Names Range) (ins outs : List (Arg ℕ)) → Stands frame.now ρ σ → HereArgs tape.now at end (length σ) ins outs
-        → Resolves (resolves Wires ρ σ (ins ++ outs)) (at + length (list_w tagged_w (tagged ins outs))) to names.old result names.new }
+    ensures resolves { (ρ : Env) (σ : Names Range) (ins outs : List (Arg ℕ)) → Stands frame.now ρ σ → HereArgs tape.now at end (length σ) ins outs
+        → Resolves (resolves Wires ρ σ (ins ++ outs)) (at + length (list_w tagged_w (tagged ins outs))) to (bases names.old) (lens names.old) result (bases names.new) (lens names.new) }
+    ensures lows_unchanged { lows names.new ≡ lows names.old }
 {
     let mut next = at;
     let mut filled = to;
     // No range: how many words an argument has is known when it is read.
     while among(tape, next, end, Kind::Input, Kind::Output) {
         let found = argument(tape, frame, next, end)?;
-        let vector = Vector {
-            base: found.base,
-            len: found.len,
-            low: 0,
-        };
-        tape::keep(names, filled, vector);
+        put(names, filled, found);
         filled += 1;
         next = found.next;
     }
@@ -190,9 +200,10 @@ pub fn tie(
     to: usize,
     names: &mut [Vector; 48],
 ) -> Result<Many, Reason>
-    requires { WrittenPorts tape.now at end to names.old }
-    ensures { (ρ : Env) (xs : List Port) → Knows values.now ρ → HerePorts tape.now at end xs → Offered to names.old xs
-        → Gathers vector_of (tie_all ρ xs) (at + length (list_w port_w xs)) to names.old result names.new }
+    requires { WrittenPorts tape.now at end to (lens names.old) }
+    ensures gathers { (ρ : Env) (xs : List Port) → Knows values.now ρ → HerePorts tape.now at end xs → Offered to (lens names.old) xs
+        → Gathers low_of (tie_all ρ xs) (at + length (list_w port_w xs)) to (lows names.old) result (lows names.new) }
+    ensures ends_unchanged { (bases names.new ≡ bases names.old) × (lens names.new ≡ lens names.old) }
 {
     let mut next = at;
     let mut filled = to;

@@ -14,9 +14,9 @@ use Rattle.frames.specs.declared.Frame.{Frame}
 use Rattle.frames.specs.Laid.{column-at}
 use Rattle.frames.specs.declared.Vector.{Vector}
 use Rattle.frames.specs.Stands.{no_vector}
-use Rattle.frames.specs.Lists.{Drawn, given_of}
+use Rattle.frames.specs.Lists.{Drawn}
 use Rattle.gates.specs.Shows.{Ends}
-use Rattle.unfold.specs.Entering.{WrittenCall, Collected, blank, gathered}
+use Rattle.unfold.specs.Entering.{WrittenCall, Collected, blank, gathered, given_of, names-given}
 
 -- generics, every subscript, then the gate: 17, 18
 abbrev pub added : ℕ → ℕ → Env → Names Range → List (Exp ℕ) → List (Arg ℕ) → State → Out State
@@ -54,7 +54,7 @@ module _ {k : ℕ} {ρ : Env} {σ : Names Range} {gs : List (Exp ℕ)} {args : L
   fitting = ends-yes k c.wires (f.fits c.wires c.resolves)
 
   pub gate-ends : Ends g.names (map base_r c.wires)
-  gate-ends = record { is = λ j h. ap (λ (t : List Vector). (get_or t j no_vector).base) c.draws.names ∙ ap (λ (v : Vector). v.base) (column-at 48 no_vector (map given_of c.wires) j h) ∙ bases c.wires j }
+  gate-ends = record { is = λ j h. ap (λ (t : List Vector). (get_or t j no_vector).base) (names-given c) ∙ ap (λ (v : Vector). v.base) (column-at 48 no_vector (map given_of c.wires) j h) ∙ bases c.wires j }
 
   pub gate-many : inputs_of k < length (map base_r c.wires)
   gate-many = omega (arith, fitting.count, length-map c.wires base_r)

@@ -15,7 +15,7 @@ use Rattle.unfold.specs.declared.Opened.{Opened}
 use Rattle.rules.specs.declared.Reason.{Reason}
 use Rattle.rules.specs.Reasons.{number as number_of}
 use Rattle.unfold.specs.Header.{HereBlock, after_locals, body_w}
-use Rattle.unfold.specs.Entering.{WrittenCall, gathered, entered, Offers, Collected, blank, tied-many, blank-many}
+use Rattle.unfold.specs.Entering.{WrittenCall, gathered, entered, Offers, Collected, blank, tied-many, blank-many, names-given}
 
 -- ---- how many there are
 
@@ -119,7 +119,7 @@ pub offers-of : {ρ : Env} {σ : Names Range} {gs : List (Exp ℕ)} {args : List
 offers-of {ρ} {σ} {args = args} B c p n = record {
   many = n ∙ sym (resolves-many ρ σ args c.resolves);
   drawn = c.draws.drawn;
-  names = c.draws.names ∙ rw p;
+  names = names-given c ∙ rw p;
 }
 
 -- the values that were stored are the generics

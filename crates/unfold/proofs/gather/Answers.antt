@@ -23,4 +23,4 @@ pub returns : goal.returns
 unfolding Gathers
 returns c ρ σ gs ins outs s h =
     let (vs, e, n, k, u) = rw c.in_ok-given.was at (c.evaluate.ensures ρ gs s.value h.values) in
-    collect ρ σ gs _ _ _ _ _ _ vs e u (c.arguments.ensures ρ σ ins outs s (rw n h.args))
+    collect ρ σ gs _ _ _ _ _ _ vs e u (c.arguments.ensures.resolves ρ σ ins outs s (rw n h.args)) c.arguments.ensures.lows_unchanged
