@@ -28,7 +28,7 @@ impl Cell for u32 {
     const ZERO: u32 = 0;
 }
 
-// All zeros, whatever stood there.
+// All zeros, whatever stood there. A loop: `fill` asks that a clone of the zero cannot fail, and `T: Copy` does not say that.
 #[tactic(auto, using(crate::specs::Zeros::cleared_more))]
 pub fn all<T: Cell>(lent: &mut [T])
     ensures { lent.new ≡ replicate (length lent.old) T.ZERO }

@@ -62,6 +62,7 @@ impl Output {
     // A space and a number.
     pub fn number(&mut self, n: usize) {
         let mut digits = [0; 20];
+        // `as` loses nothing here, and `u64` has no `From<usize>`.
         let k = io::decimal(n as u64, &mut digits);
         self.byte(b' ');
         self.bytes(&digits[..k]);

@@ -45,7 +45,7 @@ fn close(
     })
 }
 
-// A factor, where `left` more levels may be opened. `head` says what stands before it.
+// A factor, where `left` more levels may be opened. `head` says what stands before it, a number as its word has it (tape specs/Layout).
 #[cycle(expression_factor_term)]
 fn factor(
     text: &[u8],

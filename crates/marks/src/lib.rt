@@ -58,7 +58,7 @@ pub struct Spot {
     pub place: usize,
 }
 
-// A mark that joins: where it ends, and the head of the factor after it.
+// A mark that joins: where it ends, and the head of the factor after it, a number as a word of the tape has it (tape specs/Layout).
 #[derive(Clone, Copy, PartialEq, Eq, Debug)]
 pub struct Joint {
     pub next: usize,
@@ -115,7 +115,7 @@ pub fn name(text: &[u8], at: usize) -> Result<Spot, Refusal>
     Ok(Spot { next, place })
 }
 
-// A mark or a reserved word, if it is there.
+// A mark or a reserved word, if it is there. Not `mark(..).ok()`, which would make a refusal to drop it: the promise is of the word alone.
 pub fn optional(text: &[u8], at: usize, key: Key) -> Option<Spot>
     requires { at ≤ length text.now }
     ensures spots { Spots (code key) (word_at text.now at) result }

@@ -31,7 +31,7 @@ pub fn gate_at(words: &[u16], i: u16) -> Gate
     }
 }
 
-// The digits of a number: up to four bytes. A clause sees their list.
+// The digits of a number: up to four bytes, in a fixed array, as this project has no heap. A clause sees their list.
 #[derive(Drop)]
 pub struct Digits {
     bytes: [u8; 4],
@@ -54,7 +54,7 @@ impl Digits {
     }
 }
 
-// A digit as its byte.
+// A digit as its byte. `as` is proved to fit: `try_from` would want an arm that never runs.
 fn digit(n: u16) -> u8
     requires { n < 100 }
     ensures { result ≡ 48 + n }
@@ -89,7 +89,7 @@ pub fn decimal_of(n: u16) -> Digits
     Digits { bytes, count: 4 }
 }
 
-// Slot k of a gate with n inputs holds a wire where the kind uses it, else 65,535.
+// Slot k of a gate with n inputs holds a wire where the kind uses it, else 65,535: no Option, as this is what the rules lay in the word (`Slot`).
 fn slot(n: usize, wires: u16, k: usize, x: u16) -> bool
     ensures { IsTrue result ↔ Slot n wires k x }
 {
@@ -168,6 +168,8 @@ impl<'a> Netlist<'a> {
             Err(Reason::NotWellFormed)
         }
     }
+
+    // One getter for each word of the table of contents, as the rules have a definition for each.
 
     // How many wires are inputs, the first ones.
     pub fn inputs(self) -> u16

@@ -18,6 +18,7 @@ fn put_number(line: &mut [u8], at: usize, n: usize) -> usize
     ensures upper_bound { result ≤ at + 20 }
 {
     let mut digits = [0; 20];
+    // `as` loses nothing here, and `u64` has no `From<usize>`.
     let k = io::decimal(n as u64, &mut digits);
     write::copy(line, at, &digits[..k])
 }

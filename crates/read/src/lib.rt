@@ -14,7 +14,7 @@ mod reader;
 use reader::Reader;
 use rules::{Gate, Reason};
 
-// The record of gate i.
+// The record of gate i. Like `gates::write` one line of the library's; the two speak in different definitions (`Put` here, `laid` there).
 fn put_record(net: &mut [u16], i: u16, g: Gate)
     requires { (i < 1024) × (5124 ≤ length net.old) }
     ensures { Put net.old (4 + 5 * i) (record_of g) (4 + 5 * (i + 1)) net.new }
@@ -39,7 +39,7 @@ fn put_gates(reader: &mut Reader, net: &mut [u16]) -> u16
     1024
 }
 
-// The table of contents.
+// The table of contents. One line of the library's, as in `unfolding`, which has its counts in another type.
 fn put_head(net: &mut [u16], inputs: u16, outputs: u16, wires: u16, gates: u16)
     requires { 4 ≤ length net.old }
     ensures { net.new ≡ sets net.old 0 (inputs ∷ outputs ∷ wires ∷ gates ∷ []) }

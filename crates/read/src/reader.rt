@@ -53,7 +53,7 @@ impl Reader<'_> {
         value
     }
 
-    // The number that is next.
+    // The number that is next; 0 where it is too large, since nothing is tested here: the comparison decides. `as` is proved to fit.
     fn number(&self) -> u16
         ensures by_index { (n : ℕ) (ps : List (List ℕ)) → n < 10000 → Ahead self.now.rest.now (decimal n ∷ ps) → Stops ps → result ≡ n }
         ensures upper_bound { result < 10000 }
@@ -72,7 +72,7 @@ impl Reader<'_> {
         number
     }
 
-    // Slot k of a gate with n inputs, with the comma after it.
+    // Slot k of a gate with n inputs, with the comma after it; 65,535 where the kind does not use it, as the rules have it (`Slot`).
     fn slot(&mut self, n: usize, k: usize) -> u16
         requires { k < 3 }
         ensures { SlotReads self.old.rest.now n k result self.new.rest.now }
@@ -96,7 +96,7 @@ impl Reader<'_> {
             .unwrap_or(Gate::ONE)
     }
 
-    // The ports of a line that starts with wire s: how many.
+    // The ports of a line that starts with wire s: how many; 0 where there are too many, since the comparison decides.
     pub fn ports(&mut self, s: u16) -> u16
         requires { s ≤ 4000 }
         ensures upper_bound { result ≤ 1536 }
@@ -113,7 +113,7 @@ impl Reader<'_> {
         0
     }
 
-    // The lines of other wires, the first of which is wire s: how many.
+    // The lines of other wires, the first of which is wire s: how many; 0 where there are too many, since the comparison decides.
     pub fn vars(&mut self, s: u16) -> u16
         requires { s ≤ 4000 }
         ensures upper_bound { result ≤ 1536 }

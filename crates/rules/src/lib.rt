@@ -70,7 +70,7 @@ pub struct Refusal {
     pub place: usize,
 }
 
-// Kind numbers belong to the gate type (01, "Primitives").
+// Kind numbers belong to the gate type as named constants (01, "Primitives"). No enum: a netlist's word may be any u16, and each function answers for all.
 impl Gate {
     pub const CONNECT: u16 = 0;
 
@@ -158,5 +158,6 @@ pub enum Word {
     // A number also has its value.
     Number(usize, usize, usize),
     // A mark by its byte, `..` by one of its dots, a reserved word by its number, the end of the text by 0; then its place.
+    // No enum: the definitions make this number of the byte itself, or of the word's place in their table (specs/Words).
     Mark(usize, usize, usize),
 }

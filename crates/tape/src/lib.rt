@@ -5,8 +5,8 @@ ghost use Rattle.std.specs.Prelude.{◌≡◌, ◌+◌, ◌*◌, ◌-◌, ◌<�
 ghost use Rattle.tape.specs.Layout.{pack, kind_of, head_in, value_of, spelt};
 ghost use Rattle.tape.specs.Kinds.{code};
 
-// What a reader has read: where it ends in the text, where its words end on the tape, and how many names its block has then (0 where that
-// does not matter).
+// What a reader has read: where it ends in the text, where its words end on the tape, and how many names its block has then (0 from a
+// reader that declares none, so that all readers answer with one type).
 #[derive(Clone, Copy, PartialEq, Eq, Debug)]
 pub struct Read {
     pub next: usize,
@@ -14,7 +14,7 @@ pub struct Read {
     pub names: usize,
 }
 
-// What a word of the tape is about. A word has room for sixteen kinds, and two of them are free.
+// What a word of the tape is about. A word has room for sixteen kinds; the two free ones are named, as `store` takes every kind that fits.
 #[derive(Clone, Copy, PartialEq, Eq, Debug)]
 pub enum Kind {
     Number,
@@ -63,6 +63,7 @@ pub fn head_of(word: u32) -> u32
     word / 33554432 % 8
 }
 
+// `as` is proved to fit here and in `store`: `try_from` would want an arm that never runs.
 pub fn value_of(word: u32) -> usize
     ensures { result ≡ value_of word }
 {

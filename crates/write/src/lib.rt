@@ -25,7 +25,7 @@ pub fn copy(text: &mut [u8], at: usize, s: &[u8]) -> usize
     next
 }
 
-// Lent memory, and how much of it is written.
+// Lent memory, and how much of it is written: both, as the promises speak of the whole memory and of what stands in it so far.
 #[derive(Drop)]
 struct Memory<'a> {
     text: &'a mut [u8],
