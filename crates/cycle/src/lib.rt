@@ -1,4 +1,5 @@
 // Statements, rounds and calls, which unfold each other.
+// `(counts, net, marks)` stay parameters: a struct that holds `&mut` owes a clause about its references in each contract.
 #![tactic(auto)]
 
 ghost use Rattle.std.specs.Prelude.{◌≡◌, ℕ, ◌+◌, ◌*◌, ◌-◌, ◌<◌, ◌≤◌, length, get_or, nat_abs};
@@ -225,6 +226,7 @@ fn turns(
 {
     let mut so_far = counts;
     for k in 0..each.count {
+        // Proved to fit: `try_from` would want an arm that never runs.
         let one = Turn {
             index: each.index,
             place: each.place,

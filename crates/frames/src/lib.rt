@@ -1,4 +1,6 @@
 // What the names of one use of a block stand for: wires, and values.
+// `(tape, at, end)` stay parameters: `at` differs from call to call, so a struct would be built anew for each.
+// The walks count `filled` by hand: how many places are filled is part of the answer.
 #![tactic(auto)]
 
 ghost use Rattle.std.specs.Prelude.{◌≡◌, ℕ, ◌+◌, ◌*◌, ◌-◌, ◌<◌, ◌≤◌, List, ◌++◌, length, get_or, set, replicate, pos};
@@ -108,6 +110,7 @@ fn argument(tape: &[u32], frame: &Frame, at: usize, end: usize) -> Result<Found,
     if i >= usize::from(len) {
         return Err(Reason::OutsideVector);
     }
+    // Proved to fit: `try_from` would want an arm that never runs.
     Ok(Found {
         base: base + i as u16,
         len: 1,
@@ -255,6 +258,7 @@ pub fn declare(
                 place,
             });
         }
+        // Proved to fit: `try_from` would want an arm that never runs.
         let vector = Vector {
             base: wires as u16,
             len: size.wires as u16,

@@ -40,7 +40,7 @@ impl Counts {
     }
 }
 
-// Gate n of the netlist.
+// Gate n of the netlist. One line of the library's, as in `read::put_record`: the two speak in different definitions.
 fn write(net: &mut [u16], n: usize, gate: Gate)
     requires { (n < 1024) × (5124 ≤ length net.old) }
     ensures { net.new ≡ laid net.old (4 + 5 * n) (words_of gate) }

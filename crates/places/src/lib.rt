@@ -14,7 +14,7 @@ ghost use Rattle.places.specs.Starts.{starts};
 
 use tape::Kind;
 
-// The first word of a body, of those from `at` on.
+// The first word of a body, of those from `at` on. Apart from `unfold::after_generics`: see there.
 fn first_body(tape: &[u32], at: usize) -> usize
     requires { WrittenBody tape.now at }
     ensures { (body : ℕ) → FirstBody tape.now at body → result ≡ body }
@@ -36,7 +36,7 @@ fn after_block(tape: &[u32], at: usize, end: usize) -> usize
     unfold::body_at(tape, body).end
 }
 
-// Where the words of each block begin, of the `end` words that are used.
+// Where the words of each block begin, of the `end` words that are used. A fixed array: the project uses no heap.
 pub fn places(tape: &[u32], end: usize, into: &mut [usize; 64])
     requires { Resolved tape.now end × (length into.old ≡ 64) }
     ensures by_index { (s : List ℕ) (P : Program) → Held s tape.now end P → into.new ≡ put into.old 0 (starts 0 P.blocks) }

@@ -46,7 +46,7 @@ knows-none = known_of [] refl
 pub blank-filled : (ns : List Name) {k : ℕ} {vs : List Vector} → k ≡ length ns → vs ≡ replicate 48 no_vector → Filled (blanks Wires ns) k vs
 unfolding tie laid Drawn
 blank-filled ns {k} {vs} e p =
-    subst (λ σ. Filled σ k vs) (append-nil (blanks Wires ns)) (tied-filled (generics []) ns [] [] refl tt (omega arith) p refl)
+    subst (λ σ. Filled σ k vs) (append-nil (blanks Wires ns)) (tied-filled (generics []) ns [] [] refl tt (omega arith) p)
 
 -- ---- once the inputs have wires
 

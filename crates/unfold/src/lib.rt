@@ -22,7 +22,8 @@ use gates::Counts;
 use rules::Reason;
 use tape::Kind;
 
-// A resolved program: its words, where each block begins, how many words are used, and how many inputs main has.
+// A resolved program: its words, where each block begins (64 at most, in a fixed array: the project uses no heap), how many words are used,
+// and how many inputs main has.
 #[derive(Clone, Copy)]
 pub struct Program<'a> {
     pub tape: &'a [u32],
@@ -61,7 +62,8 @@ pub struct Opened {
     pub frame: Frame,
 }
 
-// The place after the generics of a block, whose words begin at `at`.
+// The place after the generics of a block, whose words begin at `at`. This scan, `after_parts` and `places::first_body` are apart: one
+// over a closure would owe a clause about its test, and each would still turn that clause into what it says of its own words.
 pub fn after_generics(tape: &[u32], at: usize, end: usize) -> usize
     requires { WrittenBlock tape.now at end }
     ensures { (B : Block ℕ Callee) → HereBlock tape.now at end B → (result ≡ after_generics at B) × (result ≡ at + 1 + length B.generics) }
@@ -186,7 +188,8 @@ fn is_loud(word: u32) -> bool
     tape::is(word, Kind::Call) || tape::is(word, Kind::Loop) || tape::is(word, Kind::Body)
 }
 
-// The place after the words from `at` on that belong to the parts of one statement: at the next statement, at a body, or at the end.
+// The place after the words from `at` on that belong to the parts of one statement: at the next statement, at a body, or at the end. Apart
+// from `after_generics`: see there.
 fn after_parts(tape: &[u32], at: usize, end: usize) -> usize
     requires { WrittenCalm tape.now at end }
     ensures { (ws : List ℕ) → Calm tape.now at end ws → result ≡ at + length ws }
@@ -226,6 +229,7 @@ pub fn begins_with(tape: &[u32], at: usize, end: usize) -> Head
         };
     }
     let meant = value % 128;
+    // Proved to fit: `try_from` would want an arm that never runs.
     let what = if meant < 10 {
         What::Gate(meant as u16)
     } else {

@@ -17,12 +17,14 @@ use unfold::Program;
 // How many levels of calls there may be below main.
 const LEVELS: usize = 15;
 
-// The table of contents: inputs, outputs, wires, gates.
+// The table of contents: inputs, outputs, wires, gates. One line of the library's, as in `read::put_head`: the two speak in different
+// definitions.
 fn contents(net: &mut [u16], inputs: usize, outputs: usize, wires: usize, gates: usize)
     requires { (4 ≤ length net.old) × (inputs < 65536) × (outputs < 65536) × (wires < 65536) × (gates < 65536) }
     ensures net_after { net.new ≡ inputs ∷ outputs ∷ wires ∷ gates ∷ drop 4 net.old }
     ensures net_len_unchanged { length net.new ≡ length net.old }
 {
+    // Proved to fit: `try_from` would want an arm that never runs.
     net[..4].copy_from_slice(&[inputs as u16, outputs as u16, wires as u16, gates as u16]);
 }
 
@@ -56,6 +58,7 @@ pub fn unfold_main(tape: &[u32], end: usize, main: usize, net: &mut [u16]) -> Re
         → Nets (unfold_main P) (length net.old) result net.new }
     ensures net_len_unchanged { length net.new ≡ length net.old }
 {
+    // A fixed array: the project uses no heap.
     let mut places = [0usize; 64];
     places::places(tape, end, &mut places);
     let begun = start::begin(tape, places[main], end)?;

@@ -1,5 +1,6 @@
 // The values of expressions that lie on the tape. A value is an i32, worked out as an i64: no sum, difference or product of two such
 // numbers leaves an i64, and in proofs both are the rules' own integers.
+// `(tape, at, end)` stay parameters: `at` and `end` differ from call to call, so a struct would be built anew for each.
 #![tactic(auto)]
 
 ghost use Rattle.std.specs.Prelude.{◌≡◌, ℕ, ◌+◌, ◌*◌, ◌-◌, ◌<◌, ◌≤◌, length, get_or, ◌-ℤ◌, Some, None, IfSome};
@@ -81,6 +82,7 @@ pub fn clip(z: i64) -> Option<i32>
     if z < -LIMIT || LIMIT < z {
         return None;
     }
+    // Proved to fit: `try_from` would want an arm that never runs.
     Some(z as i32)
 }
 
@@ -175,6 +177,7 @@ fn plain(values: &[i32; 48], word: u32) -> Option<i32>
     if tape::is(word, Kind::Name) {
         return clip(i64::from(values[v]));
     }
+    // Proved to fit: `try_from` would want an arm that never runs.
     clip(v as i64)
 }
 
