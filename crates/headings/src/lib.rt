@@ -2,7 +2,7 @@
 // Cost: gathering passes over the tape once for each row; a heading is at most 48 words; a call's words are passed three times.
 #![tactic(auto)]
 
-ghost use Rattle.std.specs.Prelude.{◌≡◌, ◌+◌, ◌<◌, ◌≤◌, length, drop, get_or, eqb};
+ghost use Rattle.std.specs.Prelude.{◌≡◌, ◌+◌, ◌<◌, ◌≤◌, ℕ, Bool, length, filter, drop, get_or, eqb};
 ghost use Rattle.rules.specs.Text.{pick};
 ghost use Rattle.tape.specs.Layout.{kind_of, head_in, value_of, GENERIC};
 ghost use Rattle.tape.specs.Kinds.{code as kind_code};
@@ -51,34 +51,38 @@ fn is_heading(word: u32) -> bool
     Kind::Body.code() < kind && kind < Kind::Var.code()
 }
 
-// The words that name blocks, generics and ports, from place 4 on.
-pub fn gather_heads(tape: &[u32], heads: &mut [u32])
-    ensures { heads.new ≡ put heads.old 4 (headings tape.now) }
+// The wanted words of a tape, kept in a row from a place on; where the next one would stand.
+// Rows are lent and may be shorter than what is gathered: what lies past them is counted and not kept, so no `zip` ends it.
+fn gather<F: Fn(u32) -> bool>(tape: &[u32], rows: &mut [u32], from: usize, wanted: F) -> usize
+    requires { (F.IsAlwaysCallable wanted) × (from ≤ 4) }
+    ensures { (p : ℕ → Bool) → ((w : ℕ) (b : Bool) → F.post wanted w b → b ≡ p w) → (rows.new ≡ put rows.old from (filter p tape.now)) × (result ≡ from + length (filter p tape.now)) }
 {
-    let mut next: usize = 4;
+    let mut next = from;
     for word in tape {
-        if is_heading(*word) {
-            tape::keep(heads, next, *word);
+        if wanted(*word) {
+            tape::keep(rows, next, *word);
             next += 1;
         }
     }
+    next
+}
+
+// The words that name blocks, generics and ports, from place 4 on: before them four words stand for a primitive's ports (sweep specs/Sweep).
+pub fn gather_heads(tape: &[u32], heads: &mut [u32])
+    ensures { heads.new ≡ put heads.old 4 (headings tape.now) }
+{
+    gather(tape, heads, 4, is_heading);
 }
 
 // The words that name blocks; their number.
 pub fn gather_titles(tape: &[u32], rows: &mut [u32]) -> usize
     ensures { (rows.new ≡ put rows.old 0 (titles tape.now)) × (result ≡ length (titles tape.now)) }
 {
-    let mut blocks: usize = 0;
-    for word in tape {
-        if tape::is(*word, Kind::Block) {
-            tape::keep(rows, blocks, *word);
-            blocks += 1;
-        }
-    }
-    blocks
+    gather(tape, rows, 0, |word| tape::is(word, Kind::Block))
 }
 
 // Where each block's heading begins among the headings.
+// Two places are counted, since a block's place is kept and a generic's or port's is only passed: a chain of adapters is no plainer.
 pub fn gather_firsts(tape: &[u32], places: &mut [usize])
     ensures { places.new ≡ put places.old 0 (firsts 4 tape.now) }
 {
@@ -151,7 +155,7 @@ impl Headings<'_> {
         }
     }
 
-    // What a call wants.
+    // What a call wants; a primitive's ports stand at places 0 to 3, before the headings (sweep specs/Sweep).
     pub fn heading_of(&self, callee: Callee) -> Heading
         ensures { result ≡ wanted self.now.words.now self.now.firsts.now callee }
     {
@@ -180,6 +184,7 @@ fn words_inside(word: u32) -> usize
 }
 
 // How many generics the words after a call's name give: the first words of expressions that stand in no bracket.
+// A first word has head 0 or 1: the layout of a tape's word is that of tape specs/Layout. Brackets change what counts, so it is a loop.
 fn generics_given(words: &[u32]) -> usize
     ensures { result ≡ generics_given 0 words.now }
 {

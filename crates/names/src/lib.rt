@@ -17,7 +17,7 @@ use rules::{Reason, Refusal};
 use sweep::{Spot, Step};
 use tape::Kind;
 
-// The word with another value.
+// The word with another value; `as` keeps it, since it is below 2^25.
 fn with_value(word: u32, value: usize) -> u32
     requires { value < 33554432 }
     ensures { result ≡ valued word value }
@@ -87,7 +87,7 @@ impl Scope<'_> {
         Ok(k)
     }
 
-    // What becomes of an argument's name, where `port` is the word of the port that it is for.
+    // What becomes of an argument's name, where `port` is the word of the port that it is for: a wire has head 0 (tape specs/Layout).
     fn as_argument(&self, port: u32, word: u32) -> Result<usize, Refusal>
         ensures { Tells (argument_step self.now.text.now self.now.words.now port word) result }
     {
@@ -247,7 +247,7 @@ fn on_declared(text: &[u8], scope: &mut [u32], word: u32, spot: Spot) -> Result<
     })
 }
 
-// One word of the tape, at a place.
+// One word of the tape, at a place. The lent rows of names and of loops' ends stay apart from the spot, which is copied at each word.
 fn take_word(
     blocks: &Blocks,
     tape: &[u32],
@@ -338,6 +338,7 @@ pub fn resolve(text: &[u8], tape: &mut [u32], end: usize) -> Result<usize, Refus
     requires { Readable text.now tape.old end }
     ensures { (Bs : Spelled) → Holds text.now tape.old end Bs → Resolves text.now Bs tape.old tape.new result }
 {
+    // No heap: rows of fixed length, for the most that a text can declare.
     let mut heads = [0u32; 3140];
     let mut firsts = [0usize; 64];
     let mut titles = [0u32; 64];

@@ -35,7 +35,7 @@ pub fn find(text: &[u8], words: &[u32], name: &[u8]) -> Option<usize>
     words.iter().position(|word| name == letters(text, *word))
 }
 
-// Which primitive has these letters, by its kind.
+// Which primitive has these letters, by its kind: `index_of` among their names, which is 10 if none has them (`finds-is` of sweep proofs/Laws/Leaves).
 pub fn primitive(name: &[u8]) -> Option<u16>
     ensures { Finds name.now primitive_names result }
 {
@@ -56,7 +56,7 @@ pub fn declared_before(text: &[u8], scope: &[u32], name: &[u8]) -> bool
     find(text, scope, name).is_some()
 }
 
-// What a declared name is.
+// What a declared name is. A word has it as its kind and head, a number: the layout of a tape's word is that of tape specs/Layout.
 #[derive(Clone, Copy, PartialEq, Eq, Debug)]
 enum Role {
     Wire,
@@ -103,7 +103,7 @@ pub fn sort_fits(head: u32, declared: u32) -> bool
     }
 }
 
-// Whether such an argument is a wire where `wire` is wanted, and else a vector.
+// Whether such an argument is a wire where `wire` is wanted, and else a vector; with a subscript (head 1) it is a wire.
 #[tactic(auto, unfolding(sweep::specs::Sweep::shape_fits, rules::specs::Text::pick, rules::specs::Names::is_wire, rules::specs::Names::is_vector))]
 pub fn shape_fits(head: u32, declared: u32, wire: bool) -> bool
     ensures { result ≡ shape_fits head (role_in declared) wire }

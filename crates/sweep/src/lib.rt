@@ -2,7 +2,7 @@
 // These are the types of its answers.
 #![tactic(auto)]
 
-// What is known where a word stands, beside the words of the declared names and the ends of loops.
+// What is known where a word stands, beside the words of the declared names and the ends of loops: those are lent rows, no heap, and are not copied.
 #[derive(Clone, Copy, PartialEq, Eq, Debug)]
 pub struct Spot {
     // How many names its block declared so far.
@@ -15,7 +15,7 @@ pub struct Spot {
     pub blocks: usize,
 }
 
-// What a call wants, and where among the headings its ports begin.
+// What a call wants, and where among the headings its ports begin; 0 for a primitive, whose ports are none of them (specs/Sweep, `headings`).
 #[derive(Clone, Copy, PartialEq, Eq, Debug)]
 pub struct Heading {
     pub generics: usize,

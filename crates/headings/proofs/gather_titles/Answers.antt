@@ -1,16 +1,8 @@
-use Rattle.std.proofs.Common.{sym, ◌∙◌, arith}
-use Rattle.sweep.proofs.Laws.Gather.{titles-skip, titles-keep, titles-more, titles-end, titles-none}
-use Rattle.headings.proofs.gather_titles.Goals.{then-is, else-is}
+use Rattle.std.specs.Prelude.{eqb}
+use Rattle.std.proofs.Common.{arith, rules}
+use Rattle.tape.specs.Layout.{kind_of, BLOCK}
+use Rattle.sweep.proofs.Laws.Gather.{titles-are}
 use Rattle.headings.proofs.gather_titles.Goals as goal
 
-pub loop-word-preserved : goal.loop-word-preserved
-loop-word-preserved c = elim c.if-is.branch [
-  | then-is w ↦
-      let z = titles-keep c.args.tape.now c.loop-word.word-index c.loop-word-test.true _ c.is.ensures w.if-is.true c.loop-word.rows c.loop-word.blocks in
-      let y = titles-more c.args.tape.now c.loop-word.word-index c.loop-word-test.true _ c.is.ensures w.if-is.true c.loop-word.blocks in
-      record { few = omega arith; ahead = cc; count = cc }
-  | else-is w ↦ let z = titles-skip c.args.tape.now c.loop-word.word-index c.loop-word-test.true _ c.is.ensures w.if-is.false in record { few = omega arith; ahead = cc; count = cc }
-]
-
 pub returns : goal.returns
-returns c = (sym (titles-end c.args.tape.now c.loop-word.word-index c.loop-word-test.false _ _) ∙ c.loop-word.invariant.ahead, sym (titles-none c.args.tape.now c.loop-word.word-index c.loop-word-test.false _) ∙ c.loop-word.invariant.count)
+returns c = let z = c.gather.ensures (λ w. eqb (kind_of w) BLOCK) (λ w b q. search rules) in (rw (← titles-are c.args.tape.now) z.0, rw (← titles-are c.args.tape.now) (omega (arith, z.1)))

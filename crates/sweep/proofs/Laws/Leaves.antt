@@ -47,6 +47,21 @@ finds-one l vs (Some j) None x y = absurd (omega (arith, x.0, x.1))
 finds-one l vs None (Some k) x y = absurd (omega (arith, y.0, y.1))
 finds-one l vs None None x y = refl
 
+-- a spelling's number is at most how many there are, and is that where it is found nowhere
+pub index-most : (l : List ℕ) (vs : List (List ℕ)) → index_of l vs ≤ length vs
+unfolding index_of pick
+index-most l [] = omega arith
+index-most l (v ∷ vs) = go (same l v) (index-most l vs)
+  where
+    go : (b : Bool) → index_of l vs ≤ length vs → pick b 0 (suc (index_of l vs)) ≤ suc (length vs)
+    go true e = omega arith
+    go false e = omega arith
+
+-- what is found says the spelling's number
+pub finds-is : (l : List ℕ) (vs : List (List ℕ)) (r : Option ℕ) → Finds l vs r → index_of l vs ≡ unwrap_or r (length vs)
+finds-is l vs (Some k) h = sym h.0
+finds-is l vs None h = omega (arith, h, index-most l vs)
+
 -- the library's test of bytes is the rules'
 pub same-is : (l r : List ℕ) → pointwise eqb l r ≡ same l r
 unfolding same
