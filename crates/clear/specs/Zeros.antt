@@ -1,6 +1,6 @@
 -- Memory that is all zero, at any width. Assumes nothing.
-use Rattle.std.specs.Prelude.{◌≡◌, refl, List, [], ◌∷◌, ◌++◌, ℕ, zero, suc, ◌+◌, ◌-◌, ◌<◌, length, get_or, set, drop, replicate}
-use Rattle.std.proofs.Common.{ap, arith}
+use Rattle.std.specs.Prelude.{◌≡◌, refl, ℕ, zero, suc, ◌-◌, length, get_or, drop}
+use Rattle.std.proofs.Common.{arith}
 use Rattle.std.proofs.lemmas.List.{length-replicate}
 pub use Rattle.rules.specs.Text.{zeros}
 
@@ -16,11 +16,3 @@ pub drop-zeros : (n k : ℕ) → drop k (zeros n) ≡ zeros (n - k)
 drop-zeros n zero = let e : n - 0 ≡ n = omega arith in rw e
 drop-zeros zero (suc k) = let e : 0 - suc k ≡ 0 = omega arith in rw e
 drop-zeros (suc n) (suc k) = let e : suc n - suc k ≡ n - k = omega arith in rw e (drop-zeros n k)
-
--- ---- while memory is being cleared
-
--- the first n cells are cleared, and one more is
-pub cleared_more : {X : Type 0} (v : X) (n : ℕ) (d : List X) → n < length d → set (replicate n v ++ drop n d) n v ≡ replicate (n + 1) v ++ drop (n + 1) d
-cleared_more v n [] h = absurd (omega arith)
-cleared_more v zero (x ∷ d) h = refl
-cleared_more v (suc n) (x ∷ d) h = let e : suc n + 1 ≡ suc (n + 1) = omega arith in rw e (ap (λ l. v ∷ l) (cleared_more v n d (omega arith)))

@@ -7,11 +7,16 @@ ghost use Rattle.std.specs.Prelude.{◌≡◌, length, replicate};
 pub trait Cell: Copy {
     ghost ZERO: { Self };
 
+    // A copy cannot fail, and is the cell itself.
+    ghost copies: { (c : Self) → Self.is_infallible c × ((d : Self) → Self.is_clone c d → d ≡ c) };
+
     const ZERO: Self;
 }
 
 impl Cell for u8 {
     ghost ZERO = { 0 };
+
+    ghost copies = { λ c. (tt, λ d e. e) };
 
     const ZERO: u8 = 0;
 }
@@ -19,21 +24,22 @@ impl Cell for u8 {
 impl Cell for u16 {
     ghost ZERO = { 0 };
 
+    ghost copies = { λ c. (tt, λ d e. e) };
+
     const ZERO: u16 = 0;
 }
 
 impl Cell for u32 {
     ghost ZERO = { 0 };
 
+    ghost copies = { λ c. (tt, λ d e. e) };
+
     const ZERO: u32 = 0;
 }
 
-// All zeros, whatever stood there. A loop: `fill` asks that a clone of the zero cannot fail, and `T: Copy` does not say that.
-#[tactic(auto, using(crate::specs::Zeros::cleared_more))]
+// All zeros, whatever stood there.
 pub fn all<T: Cell>(lent: &mut [T])
     ensures { lent.new ≡ replicate (length lent.old) T.ZERO }
 {
-    for cell in lent.iter_mut() {
-        *cell = T::ZERO;
-    }
+    lent.fill(T::ZERO);
 }
