@@ -110,6 +110,10 @@ unfolding local
 local-any s k p q at = refl
 
 module _ (s : List ℕ) (k i at p q : ℕ) (n : declared s i at ≡ ok (spelling s p q, q)) (l : q ≤ length s) {x a : ℕ} (c : mark s ":" q ≡ ok (x, a)) where
+  pub port-off : {j y : ℕ} → a_type s a ≡ refuse j y → port s i 0 at ≡ refuse j y
+  unfolding port
+  port-off e = on _ _ _ n ∙ on _ _ _ c ∙ stop _ _ _ e
+
   pub port-gives : (t : List ℕ) (to : ℕ) (u : List ℕ) (r : Result Read Refusal) → Gives none (sort_w name_w k (spelt p q)) (a_type s a) t to u r → Gives none (decl_w name_w k) (port s i 0 at) t to u r
   unfolding port decl_w give
   port-gives t to u (Ok r) e = record {
@@ -118,7 +122,7 @@ module _ (s : List ℕ) (k i at p q : ℕ) (n : declared s i at ≡ ok (spelling
     wrote = as-words (rw (spelt_is s p q l)) e.wrote;
     counts = e.counts;
   }
-  port-gives t to u (Err r) e = on _ _ _ n ∙ on _ _ _ c ∙ stop _ _ _ e
+  port-gives t to u (Err r) e = port-off e
 
   pub sort-off : {j y : ℕ} → if_next s "NUM" (give num) (a_type s) a ≡ refuse j y → local s i 0 at ≡ refuse j y
   unfolding local

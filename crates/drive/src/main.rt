@@ -6,6 +6,7 @@ mod output;
 
 ghost use Rattle.std.specs.Prelude.{ℕ, ◌≤◌, ◌≡◌, length};
 ghost use Rattle.netlist.specs.Answers.{told, its_length};
+ghost use Rattle.flatten.specs.Told.{told as flatten_told};
 
 use input::Input;
 use output::Output;
@@ -38,20 +39,50 @@ fn number<T: Copy>(answer: Result<T, Reason>) -> usize
     }
 }
 
+// The length that an answer of writing tells: 0 where there is no text.
+#[tactic(auto, unfolding(netlist::specs::Answers::told))]
+fn length_of(answer: Result<usize, Reason>) -> usize
+    ensures { result ≡ (told its_length answer).length }
+{
+    answer.unwrap_or(0)
+}
+
+// What an answer of flattening tells.
+#[derive(Clone, Copy)]
+struct Shown {
+    number: usize,
+    place: usize,
+    steps: usize,
+}
+
+fn tell(answer: Result<usize, Refusal>) -> Shown
+    ensures { (result.number ≡ (flatten_told answer).number) × (result.place ≡ (flatten_told answer).place) × (result.steps ≡ (flatten_told answer).steps) }
+{
+    match answer {
+        Ok(steps) => Shown {
+            number: 0,
+            place: 0,
+            steps,
+        },
+        Err(refusal) => Shown {
+            number: refusal.reason.number(),
+            place: refusal.place,
+            steps: 0,
+        },
+    }
+}
+
 // How many are not zero.
 fn left<T: Copy + Into<u32>>(cells: &[T]) -> usize {
     cells.iter().filter(|cell| (**cell).into() != 0).count()
 }
 
 fn show_flatten(output: &mut Output, answer: Result<usize, Refusal>, work: &[u32], net: &[u16]) {
-    let (number, place, steps) = match answer {
-        Ok(steps) => (0, 0, steps),
-        Err(refusal) => (refusal.reason.number(), refusal.place, 0),
-    };
+    let shown = tell(answer);
     output.bytes(b"flatten");
-    output.number(number);
-    output.number(place);
-    output.number(steps);
+    output.number(shown.number);
+    output.number(shown.place);
+    output.number(shown.steps);
     output.number(left(work));
     output.line(b"\nwords", net);
 }
@@ -66,7 +97,7 @@ fn show_run(output: &mut Output, answer: Result<(), Reason>, values: &[u8]) {
 fn show_write(output: &mut Output, answer: Result<usize, Reason>, text: &[u8])
     requires { (told its_length answer).length ≤ length text.now }
 {
-    let length = answer.unwrap_or(0);
+    let length = length_of(answer);
     let (written, rest) = text.split_at(length);
     output.bytes(b"write");
     output.number(number(answer));

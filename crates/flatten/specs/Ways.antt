@@ -50,6 +50,10 @@ unfolding Nets
 no-is o (Ok n) len words e a z = absurd (false≢true e)
 no-is o (Err d) len words e a z = refused-is {o = o} d len z a
 
+pub not_is : {o : Out Unfolded} {r : Result ℕ Refusal} {d : Refusal} (len : ℕ) (words : List ℕ) → r ≡ Err d → Nets o len r words → o ≡ refuse (number d.reason) d.place
+unfolding Nets
+not_is {o} len words e a = subst (λ r. Nets o len r words) e a
+
 -- ---- names
 
 pub named-wrong : (s : List ℕ) (Bs : Spelled) (t u : List ℕ) {r : Result ℕ Refusal} {d : Refusal} → r ≡ Err d → Resolves s Bs t u r → (names (length s) Bs >>= unfold_main) ≡ refuse (number d.reason) d.place

@@ -189,3 +189,6 @@ module _ {ρ : Env} {t : List ℕ} {at end to : ℕ} {xs : List Port} {l : List 
     tying-end e =
         let f = finish starts-ports d.going e in
         (d.found, sym (runs-tie ρ xs) ∙ f.0, f.1, omega (arith, d.count, d.going.count), d.low)
+
+    pub tying-room : (i < 33554432) × (k ≤ to + i)
+    tying-room = (omega (arith, d.going.listed.within, d.going.listed.short), omega (arith, d.count, d.going.from))

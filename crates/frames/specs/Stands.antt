@@ -1,9 +1,10 @@
 -- What the code's frame stands for: an environment, and the wires of each name. Assumes nothing.
-use Rattle.std.specs.Prelude.{◌≡◌, refl, ℕ, zero, suc, ◌+◌, ◌≤◌, ◌<◌, List, [], ◌∷◌, map, length, get_or, ℤ, pos}
-use Rattle.std.proofs.Common.{ap, ◌∙◌, arith}
+use Rattle.std.specs.Prelude.{◌≡◌, refl, ℕ, zero, suc, ◌+◌, ◌≤◌, ◌<◌, cond, List, [], ◌∷◌, map, length, get_or, set, ℤ, pos, eqb}
+use Rattle.std.proofs.Common.{sym, ap, ◌∙◌, arith, get_or-set_same, get_or-set_other, eq-eqb, ne_eqb}
+use Rattle.std.proofs.Math.Decide.{ℕ_discrete}
 use Rattle.rules.specs.Outcome.{ok, nth}
 use Rattle.rules.specs.Syntax.{Exp, number, name, neg, group, both, Sort, wire, vector, num}
-use Rattle.rules.specs.Values.{Env, generics, ranged, eval, shape}
+use Rattle.rules.specs.Values.{Env, generics, bound, ranged, eval, shape}
 use Rattle.rules.specs.Frames.{Sig, Frame as Names}
 use Rattle.rules.specs.Unfold.{Range}
 use Rattle.rules.proofs.Laws.Spelt.{AllExp, AllSort}
@@ -35,6 +36,13 @@ shape-knows num h p = refl
 -- the generics given
 pub knows-generics : (vs : List ℤ) → Knows (column 48 (pos 0) vs) (generics vs)
 knows-generics vs = record { is = λ k h. column-at 48 (pos 0) vs k h }
+
+pub knows-bound : {vs : List ℤ} {ρ : Env} (i : ℕ) (v : ℤ) → length vs ≡ 48 → i < 48 → Knows vs ρ → Knows (set vs i v) (bound ρ i v)
+knows-bound {vs} {ρ} i v l b h = record { is = λ k q. go k q (ℕ_discrete i k) }
+  where
+    go : (k : ℕ) → k < 48 → Dec (i ≡ k) → get_or (set vs i v) k (pos 0) ≡ cond (eqb i k) v (ρ k)
+    go k q (yes e) = rw (eq-eqb i k e, ← e) (get_or-set_same vs i v (pos 0) (omega arith))
+    go k q (no e) = rw (ne_eqb i k e) (get_or-set_other vs i k v (pos 0) (λ f. e (sym f)) ∙ h.is k q)
 
 -- ---- names
 

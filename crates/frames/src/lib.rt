@@ -19,7 +19,7 @@ ghost use Rattle.frames.specs.Args.{HereArg, WrittenArg, Finds, Fits};
 ghost use Rattle.frames.specs.Fresh.{Filled, Declares, name_words, HereDecls, WrittenDecls};
 
 use rules::{Reason, Refusal};
-use tape::Kind;
+use tape::{Coded, Kind};
 
 // A name's wires: the lowest, how many they are, and the index of the lowest.
 #[derive(Clone, Copy, PartialEq, Eq, Debug)]
@@ -120,9 +120,9 @@ fn argument(tape: &[u32], frame: &Frame, at: usize, end: usize) -> Result<Found,
 
 // Whether the word at i, before `end`, has a kind from lo to hi.
 #[tactic(auto, unfolding(crate::specs::Rows::among_of))]
-pub fn among(tape: &[u32], i: usize, end: usize, lo: Kind, hi: Kind) -> bool
+pub fn among<K: Coded>(tape: &[u32], i: usize, end: usize, lo: K, hi: K) -> bool
     requires { end ≤ length tape.now }
-    ensures { result ≡ among_of tape.now i end (code lo) (code hi) }
+    ensures { result ≡ among_of tape.now i end (K.code lo) (K.code hi) }
 {
     i < end && lo.code() <= tape::kind_of(tape[i]) && tape::kind_of(tape[i]) <= hi.code()
 }
@@ -228,19 +228,19 @@ pub fn tie(
 }
 
 // The names declared by words of a kind, each with fresh wires, after what `from` has: bounds, a wrong vector, then too many wires.
-pub fn declare(
+pub fn declare<K: Coded>(
     tape: &[u32],
     values: &[i32; 48],
     from: Fresh,
     end: usize,
-    kind: Kind,
+    kind: K,
     names: &mut [Vector; 48],
 ) -> Result<Fresh, Refusal>
-    requires written_decls { WrittenDecls tape.now from.next end (code kind) from.filled names.old }
+    requires written_decls { WrittenDecls tape.now from.next end (K.code kind) from.filled names.old }
     requires from_bound { (from.filled ≤ 48) × (from.wires ≤ 1536) }
-    ensures { (ρ : Env) (ds : List (Decl ℕ)) (σ : Names Range) (s : State) → Knows values.now ρ → HereDecls tape.now from.next end (code kind) ds
+    ensures { (ρ : Env) (ds : List (Decl ℕ)) (σ : Names Range) (s : State) → Knows values.now ρ → HereDecls tape.now from.next end (K.code kind) ds
         → Filled σ from.filled names.old → s.next ≡ from.wires
-        → Declares (declare ρ ds σ s) s (from.next + length (list_w (name_words (code kind)) ds)) result names.new }
+        → Declares (declare ρ ds σ s) s (from.next + length (list_w (name_words (K.code kind)) ds)) result names.new }
 {
     let mut next = from.next;
     let mut filled = from.filled;

@@ -44,6 +44,12 @@ module _ (s : List ℕ) (at p q : ℕ) (n : a_name s at ≡ ok (spelling s p q, 
         count₃ : length g.value + length i.value + length o.value ≡ k
         count₃ = omega (arith, g.counts, i.counts, o.counts)
 
+        pub locals-off : {z r : ℕ} → rest s [] ◌∷◌ (local s) "VAR" "BEGIN" k h ≡ refuse z r → a_block s 0 0 at ≡ refuse z r
+        unfolding a_block pick
+        locals-off l =
+            on _ _ _ n ∙ on _ _ _ g.reads ∙ on _ _ _ (ap (λ k. ports s k a) count₁ ∙ i.reads) ∙ on _ _ _ (ap (λ k. ports s k d) count₂ ∙ o.reads)
+            ∙ stop _ _ _ (ap (λ k. rest s [] ◌∷◌ (local s) "VAR" "BEGIN" k h) count₃ ∙ l)
+
         pub titled : q ≤ length s → (t : List ℕ) (to : ℕ) → v ≡ set t to (pack BLOCK 0 (spelt p q)) → start ≡ to + 1 → (z : List ℕ) (r : Result Read Refusal)
             → Gives (from k) (list_w (decl_w name_w VAR)) (rest s [] ◌∷◌ (local s) "VAR" "BEGIN" k h) y j z r → Titles s at t to z r
         unfolding a_block pick
@@ -58,9 +64,7 @@ module _ (s : List ℕ) (at p q : ℕ) (n : a_name s at ≡ ok (spelling s p q, 
               ∙ on _ _ _ (ap (λ k. rest s [] ◌∷◌ (local s) "VAR" "BEGIN" k h) count₃ ∙ l.reads);
           wrote = as-words (rw (spelt_is s p q b)) (later (stored e) (later (rw f at g.wrote) (later i.wrote (later o.wrote l.wrote))));
         }
-        titled b t to e f z (Err r) l =
-            on _ _ _ n ∙ on _ _ _ g.reads ∙ on _ _ _ (ap (λ k. ports s k a) count₁ ∙ i.reads) ∙ on _ _ _ (ap (λ k. ports s k d) count₂ ∙ o.reads)
-            ∙ stop _ _ _ (ap (λ k. rest s [] ◌∷◌ (local s) "VAR" "BEGIN" k h) count₃ ∙ l)
+        titled b t to e f z (Err r) l = locals-off l
 
 -- ---- a block
 

@@ -62,7 +62,7 @@ pub laws_of : {A : Type 0} (words : A → List ℕ) (item : List ℕ → ℕ →
 laws_of words item sep close R = record {
   refused = λ s t b e i h. wrong (R s) (begun (R s) t b.names b.next b.end) i e h;
   closed = λ s t b n i h. last (R s) (begun (R s) t b.names b.next b.end) i n b.names h (omega arith);
-  off = λ s t b m u e i h g. item-off (R s) (begun (R s) t b.names b.next b.end) i h e g;
+  off = λ s t b m u e i h g. item-off (R s) (begun (R s) t b.names b.next b.end) i h g;
   onward = λ s t b m u r i h g v a l. (onto (R s) (begun (R s) t b.names b.next b.end) i h (uncounted b.names g) r.names (omega (arith, g.counts))).goes a v l;
 }
 
@@ -78,7 +78,7 @@ pub plain_laws_of : {A : Type 0} (words : A → List ℕ) (item : List ℕ → R
 plain_laws_of words item sep close R = record {
   refused = λ s t b e i h k z. wrong (R s) (begun (R s) t k b.next b.end) i e h;
   closed = λ s t b n i h k z. last (R s) (begun (R s) t k b.next b.end) i n b.names h z;
-  off = λ s t b m u e i h g k z. item-off (R s) (begun (R s) t k b.next b.end) i h e g;
+  off = λ s t b m u e i h g k z. item-off (R s) (begun (R s) t k b.next b.end) i h g;
   onward = λ s t b m u r i h g v a l k z. (on (R s) (begun (R s) t k b.next b.end) i h g).goes a v (l (suc k) g.counts);
 }
 

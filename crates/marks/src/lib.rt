@@ -51,6 +51,30 @@ impl Key {
     }
 }
 
+// What is wanted is told by a `Key`, or by its number, which may be any: a word that no mark has is never found.
+pub trait Coded: Copy {
+    ghost code: { Self → ℕ };
+
+    fn code(self) -> usize
+        ensures { result ≡ code self };
+}
+
+impl Coded for Key {
+    ghost code = { code };
+
+    fn code(self) -> usize {
+        Key::code(self)
+    }
+}
+
+impl Coded for usize {
+    ghost code = { λ n. n };
+
+    fn code(self) -> usize {
+        self
+    }
+}
+
 // A word that was wanted: its place, and where it ends.
 #[derive(Clone, Copy, PartialEq, Eq, Debug)]
 pub struct Spot {
@@ -89,10 +113,10 @@ pub fn unwanted(word: Word) -> Refusal
 }
 
 // A mark or a reserved word.
-pub fn mark(text: &[u8], at: usize, key: Key) -> Result<Spot, Refusal>
+pub fn mark<K: Coded>(text: &[u8], at: usize, key: K) -> Result<Spot, Refusal>
     requires { at ≤ length text.now }
-    ensures tells { Tells (λ (p n : ℕ). p) (mark_at text.now (code key) at) result }
-    ensures past { IfOk result (Past (code key) (length text.now) at) }
+    ensures tells { Tells (λ (p n : ℕ). p) (mark_at text.now (K.code key) at) result }
+    ensures past { IfOk result (Past (K.code key) (length text.now) at) }
 {
     let word = words::word_at(text, at);
     let Word::Mark(b, place, next) = word else {
@@ -116,10 +140,10 @@ pub fn name(text: &[u8], at: usize) -> Result<Spot, Refusal>
 }
 
 // A mark or a reserved word, if it is there. Not `mark(..).ok()`, which would make a refusal to drop it: the promise is of the word alone.
-pub fn optional(text: &[u8], at: usize, key: Key) -> Option<Spot>
+pub fn optional<K: Coded>(text: &[u8], at: usize, key: K) -> Option<Spot>
     requires { at ≤ length text.now }
-    ensures spots { Spots (code key) (word_at text.now at) result }
-    ensures past { IfSome result (Past (code key) (length text.now) at) }
+    ensures spots { Spots (K.code key) (word_at text.now at) result }
+    ensures past { IfSome result (Past (K.code key) (length text.now) at) }
 {
     let Word::Mark(b, place, next) = words::word_at(text, at) else {
         return None;
@@ -159,10 +183,10 @@ pub fn sum(text: &[u8], at: usize) -> Option<Joint>
 }
 
 // After an item of a list: the mark that divides or the mark that closes.
-pub fn separator(text: &[u8], at: usize, sep: Key, close: Key) -> Result<Divided, Refusal>
+pub fn separator<K: Coded>(text: &[u8], at: usize, sep: K, close: K) -> Result<Divided, Refusal>
     requires { at ≤ length text.now }
-    ensures value { result ≡ dividing (code sep) (code close) (word_at text.now at) }
-    ensures parted { IfOk result (Parted (code sep) (code close) (length text.now) at) }
+    ensures value { result ≡ dividing (K.code sep) (K.code close) (word_at text.now at) }
+    ensures parted { IfOk result (Parted (K.code sep) (K.code close) (length text.now) at) }
 {
     let word = words::word_at(text, at);
     let Word::Mark(b, place, next) = word else {

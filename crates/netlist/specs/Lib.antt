@@ -1,4 +1,5 @@
 pub mod Answers
 pub mod Decides
+pub mod Digits
 pub mod Judged
 pub mod Parts

@@ -32,18 +32,26 @@ pub fn gate_at(words: &[u16], i: u16) -> Gate
 }
 
 // The digits of a number: up to four bytes, in a fixed array, as this project has no heap. A clause sees their list.
-#[derive(Drop)]
+#[derive(Clone, Copy)]
 pub struct Digits {
     bytes: [u8; 4],
     count: usize,
 }
 
 impl Model for Digits {
+    ghost use Rattle.std.specs.Prelude.{◌≡◌, ℕ, List, ◌-◌, ◌≤◌, ◌++◌, length, take, drop, replicate};
+    ghost use Rattle.netlist.specs.Digits.{filled, counted};
+
     ghost Value = { List ℕ };
 
     ghost view = { λ d. take d.count d.bytes };
 
-    ghost invariant = { λ d. d.count ≤ 4 };
+    // Zeros stand behind the digits, so that these say all.
+    ghost invariant = { λ d. (d.count ≤ 4) × (length d.bytes ≡ 4) × (drop d.count d.bytes ≡ replicate (4 - d.count) 0) };
+
+    ghost inverse = { λ ds. record { bytes = ds ++ replicate (4 - length ds) 0; count = length ds } };
+
+    ghost inverse_ok = { λ d h i. record { bytes = filled d.count d.bytes h.0 h.1 h.2 i; count = counted d.count d.bytes h.0 h.1 i } };
 }
 
 impl Digits {

@@ -1,7 +1,8 @@
 -- A number in decimal, of any size. Assumes nothing.
 use Rattle.std.specs.Prelude.{◌≡◌, refl, cond, List, [], ◌∷◌, ◌++◌, ℕ, zero, suc, ◌+◌, ◌-◌, ◌*◌, ◌/◌, ◌%◌, ◌^◌, ◌≤◌, ◌<◌, length, ltb}
 use Rattle.std.proofs.Common.{sym, ap, ◌∙◌, pow-suc, mod-eq_of_lt, mod-lt, div-lt_iff_lt-mul, le-div_iff_mul-le, arith, length-append, lt-ltb, le-ltb}
-use Rattle.std.proofs.Math.Nat.{pow-zero, one-le-pow}
+use Rattle.std.proofs.Math.Nat.{pow-zero, one-le-pow, pow-le-pow_right}
+use Rattle.std.proofs.Math.Decide.{dec_le}
 use Rattle.io.specs.Digits.{hex_digit_ascii, last_digits, IsDigitCount}
 
 -- the digits of n, with no zero before them, where there are at most so many
@@ -66,3 +67,16 @@ fewest-decimal (suc (suc k)) n f =
     let e : suc (suc k) - 1 ≡ suc k = omega arith in
     let l : 10 ^ suc k ≤ n = rw e at (f.2 (omega arith)) in
     fewest-spelled (suc k) (suc n) n (omega (arith, few (suc k))) f.1 (λ z. l)
+
+-- twenty digits hold every number of the machine
+pub at-most-20 : (k n : ℕ) → IsDigitCount 10 1 n k → n < 10 ^ 20 → k ≤ 20
+at-most-20 k n f h = go (dec_le k 20)
+  where
+    go : Dec (k ≤ 20) → k ≤ 20
+    go (yes l) = l
+    go (no g) =
+        let z : 0 < 10 = omega arith in
+        let i : 20 ≤ k - 1 = omega arith in
+        let p : 10 ^ 20 ≤ 10 ^ (k - 1) = pow-le-pow_right {n = 10} z {i = 20} {j = k - 1} i in
+        let q : 10 ^ (k - 1) ≤ n = f.2 (omega arith) in
+        absurd (omega arith)

@@ -37,12 +37,15 @@ said {number} {place} {net} f s = record { counts = f.counts; shows = subst (λ 
 pub says-refusal : {number place : ℕ} {net u : List ℕ} {r : ℕ} → 0 < number → Front r u (refused_text number place) → Says number place net r u
 says-refusal h f = said f (no_text (λ e. omega arith))
 
+pub says-ill_formed : {number place : ℕ} {net u : List ℕ} {r : ℕ} → number ≡ 0 → (WellFormed net → ⊥) → Front r u (refused_text 19 0) → Says number place net r u
+says-ill_formed e h f = said f (spoiled e h)
+
 -- a writer that had room and was refused was handed no netlist, and its number is 19
 pub says-spoiled : {number place len k : ℕ} {net t u : List ℕ} {r : ℕ} {w : Told}
     → number ≡ 0 → Wrote net len w t → 65536 ≤ len → w ≡ refused k → 0 < k → Front r u (refused_text k 0) → Says number place net r u
 says-spoiled e (short-text h) l d s f = absurd (omega arith)
 says-spoiled {u} {r} e (bad-netlist h x) l d s f =
-    said (subst (λ (k : ℕ). Front r u (refused_text k 0)) (sym (ap (λ (t : Told). t.number) d)) f) (spoiled e x)
+    says-ill_formed e x (subst (λ (k : ℕ). Front r u (refused_text k 0)) (sym (ap (λ (t : Told). t.number) d)) f)
 says-spoiled e (wrote h x) l d s f = let z : ◌≡◌ {A = ℕ} 0 _ = ap (λ (t : Told). t.number) d in absurd (omega arith)
 
 pub says-flat : {number place len : ℕ} {net u : List ℕ} {r : ℕ} {t : Told} → number ≡ 0 → Wrote net len t u → 65536 ≤ len → t ≡ done r → Says number place net r u
@@ -51,3 +54,14 @@ says-flat e (bad-netlist h x) l d = let z : ◌≡◌ {A = ℕ} 19 0 = ap (λ (t
 says-flat {len} {net} {r} e (wrote h x) l d =
     let n : r ≡ length (flat_text net) = sym (ap (λ (t : Told). t.length) d) in
     said (front_of (flat_text net) (zeros (len - length (flat_text net))) n refl) (flat e x)
+
+-- a flat text is not empty
+flat-some : (net : List ℕ) → length (flat_text net) ≡ 0 → ⊥
+unfolding flat_text joined
+flat-some net e = omega arith
+
+-- a writer that had room and wrote nothing was handed no netlist
+pub unwritten : {len : ℕ} {net u : List ℕ} {t : Told} → Wrote net len t u → 65536 ≤ len → t.length ≡ 0 → WellFormed net → ⊥
+unwritten (short-text h) l e w = omega arith
+unwritten (bad-netlist h x) l e w = x w
+unwritten {net} (wrote h x) l e w = flat-some net e

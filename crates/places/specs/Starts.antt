@@ -121,6 +121,9 @@ module _ {s t : List ℕ} {end : ℕ} {P : Program} {l₀ l : List ℕ} {i k : �
       go (B ∷ Bs) r = record { block = B; others = Bs; is = refl; here = rest-first r; some = block-some B }
 
   module _ (a : Another s t i end f.left) where
+    pub finding-place : k < length P.blocks
+    finding-place = omega (arith, f.count, ap length a.is)
+
     pub finding-on : {j : ℕ} {u : List ℕ} → j ≡ i + length (block_w slot_w meant_w a.block) → u ≡ set l k i → Finding s t end P l₀ u j (k + 1)
     unfolding starts put
     finding-on e q = rw (e, q) (record {

@@ -2,7 +2,8 @@
 // Cost: a name is compared with those before it in a row, one after another.
 #![tactic(auto)]
 
-ghost use Rattle.std.specs.Prelude.{◌≡◌, map, ◌++◌, take, option_map};
+ghost use Rattle.std.specs.Prelude.{◌≡◌, ◌<◌, map, ◌++◌, length, get_or, take, option_map, eqb};
+ghost use Rattle.std.specs.Cmp.Lexicographic.{pointwise};
 ghost use Rattle.rules.specs.Text.{is_in};
 ghost use Rattle.rules.specs.Names.{is_index};
 ghost use Rattle.rules.specs.Primitives.{primitive_names};
@@ -28,18 +29,31 @@ pub fn letters(text: &[u8], word: u32) -> &[u8]
     &text[start..end]
 }
 
+// Whether two names are the same: most are not by their first letter.
+#[tactic(auto, using(crate::proofs::First::first_differs))]
+fn alike(a: &[u8], b: &[u8]) -> bool
+    ensures { result ≡ pointwise eqb a.now b.now }
+{
+    if a.len() > 0 && b.len() > 0 && a[0] != b[0] {
+        return false;
+    }
+    a == b
+}
+
 // The first of some words whose name has these letters.
 pub fn find(text: &[u8], words: &[u32], name: &[u8]) -> Option<usize>
     ensures { Finds name.now (map (letters_of text.now) words.now) result }
 {
-    words.iter().position(|word| name == letters(text, *word))
+    words
+        .iter()
+        .position(|word| alike(name, letters(text, *word)))
 }
 
 // Which primitive has these letters, by its kind: `index_of` among their names, which is 10 if none has them (`finds-is` of sweep proofs/Laws/Leaves).
 pub fn primitive(name: &[u8]) -> Option<u16>
     ensures { Finds name.now primitive_names result }
 {
-    (0..10).find(|kind| name == Gate::name(*kind))
+    (0..10).find(|kind| alike(name, Gate::name(*kind)))
 }
 
 // Whether a block's name is a primitive's, or that of one of the blocks before it.

@@ -1,7 +1,7 @@
 // The tape: a program as words in the lent work table. The encoding stands in specs/Encoding, the layout of a word in specs/Layout.
 #![tactic(auto)]
 
-ghost use Rattle.std.specs.Prelude.{◌≡◌, ◌+◌, ◌*◌, ◌-◌, ◌<◌, ◌≤◌, length, set, eqb};
+ghost use Rattle.std.specs.Prelude.{ℕ, ◌≡◌, ◌+◌, ◌*◌, ◌-◌, ◌<◌, ◌≤◌, length, set, eqb};
 ghost use Rattle.tape.specs.Layout.{pack, kind_of, head_in, value_of, spelt};
 ghost use Rattle.tape.specs.Kinds.{code};
 
@@ -41,6 +41,30 @@ impl Kind {
         ensures { (result ≡ code self) × (result < 16) }
     {
         self as u32
+    }
+}
+
+// A kind is told by a `Kind`, or by its number, which may be any: one that no word can have is the kind of none.
+pub trait Coded: Copy {
+    ghost code: { Self → ℕ };
+
+    fn code(self) -> u32
+        ensures { result ≡ code self };
+}
+
+impl Coded for Kind {
+    ghost code = { code };
+
+    fn code(self) -> u32 {
+        Kind::code(self)
+    }
+}
+
+impl Coded for u32 {
+    ghost code = { λ n. n };
+
+    fn code(self) -> u32 {
+        self
     }
 }
 

@@ -1,6 +1,6 @@
 -- A whole unfolding: from main on the tape to the netlist's words. Assumes nothing.
 use Rattle.std.specs.Prelude.{◌≡◌, refl, ℕ, suc, ◌+◌, ◌-◌, ◌*◌, ◌≤◌, Bool, false, List, [], ◌∷◌, ◌++◌, map, get_or, set, drop, replicate, Result, Ok, Err}
-use Rattle.std.proofs.Common.{sym, ◌∙◌, arith}
+use Rattle.std.proofs.Common.{sym, ◌∙◌, arith, length-set}
 use Rattle.std.proofs.Math.Path.{ap, subst}
 use Rattle.std.proofs.Math.ListN.{length}
 use Rattle.std.proofs.lemmas.List.{length-replicate, get_or-replicate}
@@ -68,6 +68,16 @@ pub record MainReady (t places : List ℕ) (last : ℕ) (net : List ℕ) (f : Fr
   pub room : 5124 ≤ length net
 
 -- ---- the table of contents
+
+pub front : (t : List ℕ) (a b c d : ℕ) → 4 ≤ length t → set (set (set (set t 0 a) 1 b) 2 c) 3 d ≡ a ∷ b ∷ c ∷ d ∷ drop 4 t
+front [] a b c d h = absurd (omega arith)
+front (w ∷ []) a b c d h = absurd (omega arith)
+front (w ∷ x ∷ []) a b c d h = absurd (omega arith)
+front (w ∷ x ∷ y ∷ []) a b c d h = absurd (omega arith)
+front (w ∷ x ∷ y ∷ z ∷ t) a b c d h = refl
+
+pub front_long : (t : List ℕ) (a b c d : ℕ) → length (set (set (set (set t 0 a) 1 b) 2 c) 3 d) ≡ length t
+front_long t a b c d = length-set (set (set (set t 0 a) 1 b) 2 c) 3 d ∙ length-set (set (set t 0 a) 1 b) 2 c ∙ length-set (set t 0 a) 1 b ∙ length-set t 0 a
 
 laid-put : (ws t : List ℕ) (to : ℕ) → laid t to ws ≡ put t to ws
 unfolding laid put

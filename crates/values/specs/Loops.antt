@@ -1,6 +1,7 @@
 -- The rounds of a loop, from its bounds on the tape. Assumes nothing.
 use Rattle.std.specs.Prelude.{◌≡◌, refl, ℕ, zero, suc, ◌+◌, ◌-◌, ◌≤◌, ◌<◌, Bool, true, false, cond, ltb, ℤ, pos, negsuc, nat_abs, neg_ℤ, ◌+ℤ◌, ◌-ℤ◌, Option, Some, None, Result, Ok, Err}
 use Rattle.std.proofs.Common.{◌∙◌, subst, arith, leb→le}
+use Rattle.std.proofs.Math.IntN.{suc_ℤ}
 use Rattle.rules.specs.Outcome.{ok, refuse}
 use Rattle.rules.specs.Syntax.{Exp, number, name, neg, group, both}
 use Rattle.rules.specs.Values.{Env, ranged, eval, rounds}
@@ -73,3 +74,8 @@ rounds-more (negsuc a) n h k = rounds-cond (ltb (suc n) (suc a)) (suc a - suc (s
 pub rounds-small : (x y : ℤ) → nat_abs x ≤ 1000000 → nat_abs y ≤ 1000000 → rounds (y -ℤ x) ≤ 2000001
 rounds-small (pos n) y h k = rounds-less y n k h
 rounds-small (negsuc n) y h k = rounds-more y n k h
+
+pub next_small : (v : ℤ) (n : ℕ) → nat_abs v ≤ n → nat_abs (suc_ℤ v) ≤ n + 1
+next_small (pos a) n h = omega arith
+next_small (negsuc zero) n h = omega arith
+next_small (negsuc (suc a)) n h = omega arith

@@ -100,12 +100,17 @@ fn join(mark: Mark, v: Option<i32>, w: Option<i32>) -> Option<i32>
 {
     let x = i64::from(v?);
     let y = i64::from(w?);
-    match mark {
-        Mark::First => w,
-        Mark::Plus => clip(x + y),
-        Mark::Minus => clip(x - y),
-        Mark::Times => clip(x * y),
+    // No `match`: most sums have one term, and this is asked before all else.
+    if mark == Mark::First {
+        return w;
     }
+    if mark == Mark::Plus {
+        return clip(x + y);
+    }
+    if mark == Mark::Minus {
+        return clip(x - y);
+    }
+    clip(x * y)
 }
 
 // The mark in a factor's head.

@@ -5,6 +5,7 @@ use Rattle.std.proofs.Math.Decide.{dec_lt}
 use Rattle.std.proofs.lemmas.List.{take_all, get_or-drop}
 use Rattle.std.proofs.lemmas.Bool.{eq-eqb, eqb-true, eqb-false}
 use borrow.Author.Tests.{ne_eqb, lt-ltb, le-ltb}
+use Rattle.std.proofs.lemmas.Bool.Decides.{nat_tests}
 use Rattle.std.specs.Cmp.Lexicographic.{pointwise}
 use Rattle.std.proofs.lemmas.List.Sums.{prefix_len-le-length}
 use Rattle.std.specs.List.{prefix_len, starts_with}
@@ -28,9 +29,13 @@ a_word s p n e f =
     let g : run in_word (drop p s) ≡ n = run_is in_word (drop p s) ∙ sym (f ∙ rw (rest_is s p)) in
     rw (m, ← e, g)
 
-pub a_mark : (s : List ℕ) (p k : ℕ) → false ≡ in_word (get_or s p 0) → true ≡ is_mark (get_or s p 0) → k ≡ get_or s p 0 → Mark k p (p + 1) ≡ begun s p
+-- no mark is in a word
+outside : (b : ℕ) → true ≡ is_mark b → in_word b ≡ false
+outside b e = grind (arith, nat_tests)
+
+pub a_mark : (s : List ℕ) (p k : ℕ) → true ≡ is_mark (get_or s p 0) → k ≡ get_or s p 0 → Mark k p (p + 1) ≡ begun s p
 unfolding begun pick
-a_mark s p k e f g = rw (← e, ← f, g)
+a_mark s p k f g = rw (outside (get_or s p 0) f, ← f, g)
 
 -- ---- two dots
 

@@ -2,3 +2,5 @@ pub mod Library
 pub mod Digits
 pub mod Beginnings
 pub mod Places
+pub mod Capitals
+pub mod Table

@@ -8,6 +8,7 @@ ghost use Rattle.std.specs.Char.{is_ascii_digit};
 ghost use Rattle.std.specs.Cmp.Lexicographic.{pointwise};
 ghost use Rattle.rules.specs.Text.{bytes, pick, is_in, index_of};
 ghost use Rattle.rules.specs.Words.{is_separator, is_digit, is_mark, in_word, reserved, all, value_of, spelled, begun, word_at};
+ghost use Rattle.words.specs.Capitals.{capital};
 ghost use Rattle.words.specs.Found.{place};
 ghost use Rattle.words.specs.Onward.{Onward};
 
@@ -30,23 +31,70 @@ const RESERVED: [&[u8]; 14] = [
     b"BELOW",
 ];
 
+// Letters, digits and the underscore; and the marks of one byte: tables, since every byte of a text is asked.
+const IN_WORD: [bool; 256] = [
+    false, false, false, false, false, false, false, false, false, false, false, false, false,
+    false, false, false, false, false, false, false, false, false, false, false, false, false,
+    false, false, false, false, false, false, false, false, false, false, false, false, false,
+    false, false, false, false, false, false, false, false, false, true, true, true, true, true,
+    true, true, true, true, true, false, false, false, false, false, false, false, true, true,
+    true, true, true, true, true, true, true, true, true, true, true, true, true, true, true, true,
+    true, true, true, true, true, true, true, true, false, false, false, false, true, false, true,
+    true, true, true, true, true, true, true, true, true, true, true, true, true, true, true, true,
+    true, true, true, true, true, true, true, true, true, false, false, false, false, false, false,
+    false, false, false, false, false, false, false, false, false, false, false, false, false,
+    false, false, false, false, false, false, false, false, false, false, false, false, false,
+    false, false, false, false, false, false, false, false, false, false, false, false, false,
+    false, false, false, false, false, false, false, false, false, false, false, false, false,
+    false, false, false, false, false, false, false, false, false, false, false, false, false,
+    false, false, false, false, false, false, false, false, false, false, false, false, false,
+    false, false, false, false, false, false, false, false, false, false, false, false, false,
+    false, false, false, false, false, false, false, false, false, false, false, false, false,
+    false, false, false, false, false, false, false, false, false, false, false, false, false,
+    false, false, false, false, false, false, false, false, false, false,
+];
+
+const IS_MARK: [bool; 256] = [
+    false, false, false, false, false, false, false, false, false, false, false, false, false,
+    false, false, false, false, false, false, false, false, false, false, false, false, false,
+    false, false, false, false, false, false, false, false, false, false, false, false, false,
+    false, true, true, true, true, true, true, false, false, false, false, false, false, false,
+    false, false, false, false, false, true, true, false, true, false, false, false, false, false,
+    false, false, false, false, false, false, false, false, false, false, false, false, false,
+    false, false, false, false, false, false, false, false, false, false, false, true, false, true,
+    false, false, false, false, false, false, false, false, false, false, false, false, false,
+    false, false, false, false, false, false, false, false, false, false, false, false, false,
+    false, false, false, false, false, false, false, false, false, false, false, false, false,
+    false, false, false, false, false, false, false, false, false, false, false, false, false,
+    false, false, false, false, false, false, false, false, false, false, false, false, false,
+    false, false, false, false, false, false, false, false, false, false, false, false, false,
+    false, false, false, false, false, false, false, false, false, false, false, false, false,
+    false, false, false, false, false, false, false, false, false, false, false, false, false,
+    false, false, false, false, false, false, false, false, false, false, false, false, false,
+    false, false, false, false, false, false, false, false, false, false, false, false, false,
+    false, false, false, false, false, false, false, false, false, false, false, false, false,
+    false, false, false, false, false, false, false, false, false, false, false, false, false,
+    false, false, false, false, false, false,
+];
+
 fn is_separator(b: u8) -> bool
     ensures { result ≡ is_separator b }
 {
-    matches!(b, b' ' | b'\t' | b'\r' | b'\n')
+    // Most bytes are above them all.
+    b <= b' ' && matches!(b, b' ' | b'\t' | b'\r' | b'\n')
 }
 
 fn in_word(b: u8) -> bool
     ensures { result ≡ in_word b }
 {
-    b.is_ascii_alphanumeric() || b == b'_'
+    IN_WORD[usize::from(b)]
 }
 
 // A mark of one byte.
 fn is_mark(b: u8) -> bool
     ensures { result ≡ is_mark b }
 {
-    matches!(b, b'('..=b'-' | b':' | b';' | b'=' | b'[' | b']')
+    IS_MARK[usize::from(b)]
 }
 
 // How many separators a text begins with.
@@ -71,11 +119,22 @@ fn place(words: &[&[u8]], word: &[u8]) -> Option<usize>
     words.iter().position(|w| word == *w)
 }
 
-// Which reserved word it is, counted from 0.
-#[tactic(auto, using(crate::proofs::Library::place_is))]
+// Whether it can be a reserved word: each has two letters or more, and begins with a capital.
+#[tactic(auto, unfolding(crate::specs::Capitals::capital))]
+fn is_capital(word: &[u8]) -> bool
+    ensures { result ≡ capital word.now }
+{
+    word.len() > 1 && word[0].is_ascii_uppercase()
+}
+
+// Which reserved word it is, counted from 0. Most words of a text are none by their first letter, and are not looked for among the fourteen.
+#[tactic(auto, using(crate::proofs::Library::place_is, crate::proofs::Capitals::no_capital))]
 fn reserved(word: &[u8]) -> Option<usize>
     ensures { result ≡ pick (is_in word.now (map bytes reserved)) (Some (index_of word.now (map bytes reserved))) None }
 {
+    if !is_capital(word) {
+        return None;
+    }
     place(&RESERVED, word)
 }
 
@@ -122,12 +181,12 @@ fn begun(text: &[u8], p: usize) -> Word
     ensures { result ≡ begun text.now p }
 {
     let b = text[p];
+    if is_mark(b) {
+        return Word::Mark(usize::from(b), p, p + 1);
+    }
     if in_word(b) {
         let end = p + letters(&text[p..]);
         return spell(&text[p..end], p, end);
-    }
-    if is_mark(b) {
-        return Word::Mark(usize::from(b), p, p + 1);
     }
     if text[p..].starts_with(b"..") {
         return Word::Mark(usize::from(b), p, p + 2);

@@ -8,10 +8,10 @@ use Rattle.values.specs.Sizes.{Sizes}
 use Rattle.frames.proofs.declare.Goals as goal
 
 pub loop-kind-init : goal.loop-kind-init
-loop-kind-init c ρ ds σ s K h f e = declaring-begin h e c.requires.from_bound.1 f
+loop-kind-init g c ρ ds σ s K h f e = declaring-begin h e c.requires.from_bound.1 f
 
 pub offset_bounds-tape-next : goal.offset_bounds-tape-next
-offset_bounds-tape-next c =
+offset_bounds-tape-next g c =
     let p = c.requires.written_decls in
     let d = c.loop-kind.invariant _ _ _ (some-state c.args.from.wires) (knows-itself _) p.here p.filled refl in
     let n = declaring-next d (sym c.among.ensures ∙ c.loop-kind-test.true) in
@@ -21,14 +21,14 @@ offset_bounds-tape-next c =
     search rules
 
 pub bounds-tape-next : goal.bounds-tape-next
-bounds-tape-next c =
+bounds-tape-next g c =
     let p = c.requires.written_decls in
     let d = c.loop-kind.invariant _ _ _ (some-state c.args.from.wires) (knows-itself _) p.here p.filled refl in
     let n = declaring-next d (sym c.among.ensures ∙ c.loop-kind-test.true) in
     omega (arith, n.alone.within, n.alone.limit, n.some)
 
 pub measure-requires : goal.measure-requires
-measure-requires c =
+measure-requires g c =
     let p = c.requires.written_decls in
     let d = c.loop-kind.invariant _ _ _ (some-state c.args.from.wires) (knows-itself _) p.here p.filled refl in
     let n = declaring-next d (sym c.among.ensures ∙ c.loop-kind-test.true) in
@@ -36,7 +36,7 @@ measure-requires c =
 
 pub returns-in_err-size : goal.returns-in_err-size
 unfolding Sizes Declares
-returns-in_err-size c ρ ds σ s K h f e =
+returns-in_err-size g c ρ ds σ s K h f e =
     let d = c.loop-kind.invariant ρ ds σ s K h f e in
     let n = declaring-next d (sym c.among.ensures ∙ c.loop-kind-test.true) in
     let m : c.measure.result ≡ Err c.in_err-size.field-0.0.reason = grind arith in
@@ -45,7 +45,7 @@ returns-in_err-size c ρ ds σ s K h f e =
     rw q (declaring-refused d n (sym (shape-knows _ K n.sound.sort) ∙ rw m at (c.measure.ensures _ _ _ (here-sort n.sound n.alone))) (p ∙ rw c.value_of.ensures (name-place n)))
 
 pub overflow_sub-wires : goal.overflow_sub-wires
-overflow_sub-wires c =
+overflow_sub-wires g c =
     let p = c.requires.written_decls in
     let d = c.loop-kind.invariant _ _ _ (some-state c.args.from.wires) (knows-itself _) p.here p.filled refl in
     let w = d.wires in
@@ -53,7 +53,7 @@ overflow_sub-wires c =
 
 pub returns-then-size-wires : goal.returns-then-size-wires
 unfolding Sizes Declares
-returns-then-size-wires c ρ ds σ s K h f e =
+returns-then-size-wires g c ρ ds σ s K h f e =
     let d = c.loop-kind.invariant ρ ds σ s K h f e in
     let n = declaring-next d (sym c.among.ensures ∙ c.loop-kind-test.true) in
     let m : c.measure.result ≡ Ok c.in_ok-size.size = grind arith in
@@ -61,20 +61,20 @@ returns-then-size-wires c ρ ds σ s K h f e =
     declaring-full d n (sym (shape-knows _ K n.sound.sort) ∙ q.0) (rw c.value_of.ensures (name-place n)) (omega (arith, d.wires, c.if-size-wires.true))
 
 pub overflow_cast-vector : goal.overflow_cast-vector
-overflow_cast-vector c =
+overflow_cast-vector g c =
     let p = c.requires.written_decls in
     let d = c.loop-kind.invariant _ _ _ (some-state c.args.from.wires) (knows-itself _) p.here p.filled refl in
     record { fits = omega (arith, d.wires) }
 
 pub overflow_add-filled : goal.overflow_add-filled
-overflow_add-filled c =
+overflow_add-filled g c =
     let p = c.requires.written_decls in
     let d = c.loop-kind.invariant _ _ _ (some-state c.args.from.wires) (knows-itself _) p.here p.filled refl in
     omega (arith, d.room, c.requires.from_bound.0, d.listed.short, d.listed.within)
 
 pub loop-kind-smaller : goal.loop-kind-smaller
 unfolding Sizes decl_w
-loop-kind-smaller c =
+loop-kind-smaller g c =
     let p = c.requires.written_decls in
     let d = c.loop-kind.invariant _ _ _ (some-state c.args.from.wires) (knows-itself _) p.here p.filled refl in
     let n = declaring-next d (sym c.among.ensures ∙ c.loop-kind-test.true) in
@@ -84,7 +84,7 @@ loop-kind-smaller c =
 
 pub loop-kind-preserved : goal.loop-kind-preserved
 unfolding Sizes decl_w
-loop-kind-preserved c ρ ds σ s K h f e =
+loop-kind-preserved g c ρ ds σ s K h f e =
     let d = c.loop-kind.invariant ρ ds σ s K h f e in
     let n = declaring-next d (sym c.among.ensures ∙ c.loop-kind-test.true) in
     let m : c.measure.result ≡ Ok c.in_ok-size.size = grind arith in
@@ -93,4 +93,4 @@ loop-kind-preserved c ρ ds σ s K h f e =
     declaring-on d n (sym (shape-knows _ K n.sound.sort) ∙ q.0) (omega (arith, d.wires, c.if-size-wires.false)) q.1 (rw (to_z-of_z {w = w32} x) at c.keep.ensures) refl refl
 
 pub returns : goal.returns
-returns c ρ ds σ s K h f e = declaring-end (c.loop-kind.invariant ρ ds σ s K h f e) (sym c.among.ensures ∙ c.loop-kind-test.false)
+returns g c ρ ds σ s K h f e = declaring-end (c.loop-kind.invariant ρ ds σ s K h f e) (sym c.among.ensures ∙ c.loop-kind-test.false)

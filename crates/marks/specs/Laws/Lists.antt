@@ -88,9 +88,10 @@ module _ {s : List ℕ} {A B : Type 0} {one : A → ℕ} {f : A → List ℕ} {s
   -- the loop's invariant: what the rest of the list gives from here, it gives from the loop's start
   pub record Listing (t : List ℕ) (k₀ at to : ℕ) (u : List ℕ) (k next end : ℕ) : Type 0 where
     pub goes : (r : Result Read Refusal) (v : List ℕ) → Gives (size k) g (rest s none more item sep close k next) u end v r → Gives (size k₀) g (rest s none more item sep close k₀ at) t to v r
+    pub stops : {j p : ℕ} → rest s none more item sep close k next ≡ refuse j p → rest s none more item sep close k₀ at ≡ refuse j p
 
   pub begun : (t : List ℕ) (k at to : ℕ) → Listing t k at to t k at to
-  begun t k at to = record { goes = λ r v x. x }
+  begun t k at to = record { goes = λ r v x. x; stops = λ e. e }
 
   module _ {t : List ℕ} {k₀ at to : ℕ} {u : List ℕ} {k next end : ℕ} (L : Listing t k₀ at to u k next end) (inside : next ≤ length s) where
     pub wrong : (e : Refusal) → Err e ≡ dividing (key sep) (key close) (word_at s next) → rest s none more item sep close k₀ at ≡ refuse (number e.reason) e.place
@@ -111,13 +112,16 @@ module _ {s : List ℕ} {A B : Type 0} {one : A → ℕ} {f : A → List ℕ} {s
       unfolding turn
       turns = R.again k next inside ∙ found (key sep) (key close) _ _ (word_at s next) (Ok (Another x)) mark
 
-      pub item-off : (e : Refusal) → item k x.place x.next ≡ refuse (number e.reason) e.place → rest s none more item sep close k₀ at ≡ refuse (number e.reason) e.place
+      pub item-off : {j q : ℕ} → item k x.place x.next ≡ refuse j q → rest s none more item sep close k₀ at ≡ refuse j q
       unfolding ◌>>=◌ ◌and-then◌
-      item-off e h = L.goes (Err e) u (turns ∙ rw h)
+      item-off e = L.stops (turns ∙ rw e)
 
       pub on : {w : List ℕ} {y z c : ℕ} → Got one f (item k x.place x.next) u end w y z c → Listing t k₀ at to w (suc k) y z
-      unfolding ◌>>=◌
-      on {w} {y} {z} a = record { goes = λ r v b. L.goes r v (rw turns (and-rest (item k x.place x.next) k v r a b)) }
+      unfolding ◌>>=◌ ◌and-then◌
+      on {w} {y} {z} a = record {
+        goes = λ r v b. L.goes r v (rw turns (and-rest (item k x.place x.next) k v r a b));
+        stops = λ e. L.stops (turns ∙ rw (a.reads, e));
+      }
 
       -- where the items are counted
       pub onto : {w : List ℕ} {y z c : ℕ} → Got one f (item k x.place x.next) u end w y z c → (j : ℕ) → j ≡ suc k → Listing t k₀ at to w j y z

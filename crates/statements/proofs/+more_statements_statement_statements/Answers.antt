@@ -24,7 +24,7 @@ more_statements-returns-in-Last-clause-gives t c =
 pub more_statements-returns-in_err-read-in-Another-clause-gives : goal.more_statements-returns-in_err-read-in-Another-clause-gives
 more_statements-returns-in_err-read-in-Another-clause-gives t c =
     gives_on none (stmts_w name_w callee_w) _ _ _ _ _ c.from_residual-in_err-read-in-Another.ensures.1
-    (item-off (statements-row _ _) c.loop-next.invariant.0.1 c.loop-next.invariant.3 (rw c.in-Another.is at c.in_ok-next.ensures.value) _ c.in_err-read-in-Another.ensures.gives)
+    (item-off (statements-row _ _) c.loop-next.invariant.0.1 c.loop-next.invariant.3 (rw c.in-Another.is at c.in_ok-next.ensures.value) c.in_err-read-in-Another.ensures.gives)
 
 pub more_statements-loop-next-preserved : goal.more_statements-loop-next-preserved
 more_statements-loop-next-preserved t c =
