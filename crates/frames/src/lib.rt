@@ -8,7 +8,6 @@ ghost use Rattle.rules.specs.Syntax.{Exp, Arg, Decl};
 ghost use Rattle.rules.specs.Values.{Env, evals, bound};
 ghost use Rattle.rules.specs.Frames.{Frame as Names, resolve, resolves};
 ghost use Rattle.rules.specs.Unfold.{Range, Wires, State, declare};
-ghost use Rattle.tape.specs.Kinds.{code};
 ghost use Rattle.tape.specs.Encoding.{arg_w, list_w};
 ghost use Rattle.tape.specs.Resolved.{slot_w};
 ghost use Rattle.frames.specs.Stands.{Stands, Knows, no_vector, low_of, bases, lens, lows};

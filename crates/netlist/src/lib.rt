@@ -1,7 +1,7 @@
 // The words of a netlist, when they are well formed, and how a wire is numbered.
 #![tactic(auto)]
 
-ghost use Rattle.std.specs.Prelude.{◌≡◌, ◌↔◌, IsTrue, List, ℕ, ◌+◌, ◌<◌, ◌≤◌, get_or, take, IfOk, IfErr};
+ghost use Rattle.std.specs.Prelude.{◌≡◌, ◌↔◌, IsTrue, ◌+◌, ◌<◌, get_or, IfOk, IfErr};
 ghost use Rattle.rules.specs.Flat.{decimal};
 ghost use Rattle.rules.specs.Netlist.{inputs, outputs, wires, gates, gate_at, Slot, Fine, WellFormed};
 ghost use Rattle.netlist.specs.Judged.{Judged};

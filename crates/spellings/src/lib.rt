@@ -2,7 +2,7 @@
 // Cost: a name is compared with those before it in a row, one after another.
 #![tactic(auto)]
 
-ghost use Rattle.std.specs.Prelude.{◌≡◌, ◌<◌, map, ◌++◌, length, get_or, take, option_map, eqb};
+ghost use Rattle.std.specs.Prelude.{◌≡◌, map, ◌++◌, take, option_map, eqb};
 ghost use Rattle.std.specs.Cmp.Lexicographic.{pointwise};
 ghost use Rattle.rules.specs.Text.{is_in};
 ghost use Rattle.rules.specs.Names.{is_index};
@@ -29,7 +29,7 @@ pub fn letters(text: &[u8], word: u32) -> &[u8]
     &text[start..end]
 }
 
-// Whether two names are the same: most are not by their first letter.
+// Whether two names are the same. Most differ at their first letter, which is asked before the whole is compared.
 #[tactic(auto, using(crate::proofs::First::first_differs))]
 fn alike(a: &[u8], b: &[u8]) -> bool
     ensures { result ≡ pointwise eqb a.now b.now }

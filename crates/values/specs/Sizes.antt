@@ -185,7 +185,7 @@ module _ (ρ : Env) {t : List ℕ} {at end k v : ℕ} (s : Sort ℕ) (b : Pair t
   unfolding shape ◌>>=◌ size_of
   wrong_pair e = rw b.is (bounds-refused ρ b.first b.second (λ x y. size_of x y) e)
 
-  vector-size : {x y : ℤ} → eval ρ b.first ≡ ok x → eval ρ b.second ≡ ok y → shape ρ s ≡ size_of x y
+  pub vector-size : {x y : ℤ} → eval ρ b.first ≡ ok x → eval ρ b.second ≡ ok y → shape ρ s ≡ size_of x y
   unfolding shape ◌>>=◌ size_of
   vector-size e f = rw (b.is, e, f)
 

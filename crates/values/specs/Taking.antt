@@ -262,7 +262,7 @@ module _ {ρ : Env} {t : List ℕ} {at end : ℕ} {e : Exp ℕ} {i : ℕ} {s : S
       → goes_on t next end ≡ true → Left ρ t at e next s'
   onward head next v s' p q r n g = rw (then_is head v s' p q r, n) (go_on h l (rw n at g))
 
-  ending : (head next : ℕ) (v : Option ℤ) (s' : Sum) (a : Option Valued) → s' ≡ step head v s → head ≡ head_in (get_or t i 0) → v ≡ value ρ l.first.base → next ≡ after_of t i
+  pub ending : (head next : ℕ) (v : Option ℤ) (s' : Sum) (a : Option Valued) → s' ≡ step head v s → head ≡ head_in (get_or t i 0) → v ≡ value ρ l.first.base → next ≡ after_of t i
       → goes_on t next end ≡ false → a ≡ value_at (total s') next → Says (eval ρ e) (at + length (exp_w slot_w 0 e)) a
   ending head next v s' a p q r n g w =
       let f = finish h l (rw n at g) in
