@@ -51,7 +51,7 @@ impl Key {
     }
 }
 
-// What is wanted is told by a `Key`, or by its number, which may be any: a word that no mark has is never found.
+// What is wanted is told by a `Key`, or by a number, which may be any: one that no word has is never found.
 pub trait Coded: Copy {
     ghost code: { Self → ℕ };
 
